@@ -22,7 +22,7 @@ def line_of(event, number):
     """The line of an event; a record has this number."""
     if not isinstance(event, Record):
         return f"  answered with record {event.number}"
-    verdict = "yes" if event.yes else "no"
+    verdict = ("yes" if event.yes else "no") + (", kept" if event.kept else "")
     shown = repr(event.text[:SHOWN].decode("utf-8", "backslashreplace"))
     more = " .." if len(event.text) > SHOWN else ""
     return f"record {number}: {verdict}, {len(event.text)} bytes, {shown}{more}"

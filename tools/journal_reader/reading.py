@@ -9,17 +9,21 @@ HEAD_WITH_START = re.compile(rb"perses-journal 2\nS ([0-9a-f]{64})\n")
 LONGEST_TEXT = 1048576
 
 # Whole first lines of events, and what such a line can begin with before its newline has come.
-RECORD_LINE = re.compile(rb"R ([yn]) (0|[1-9][0-9]*)\n")
+RECORD_LINE = re.compile(rb"([RK]) ([yn]) (0|[1-9][0-9]*)\n")
 COMMIT_LINE = re.compile(rb"C ([1-9][0-9]*)\n")
-RECORD_FRONT = re.compile(rb"R(?: (?:[yn](?: (0|[1-9][0-9]*)?)?)?)?\Z")
+RECORD_FRONT = re.compile(rb"([RK])(?: (?:[yn](?: (0|[1-9][0-9]*)?)?)?)?\Z")
 COMMIT_FRONT = re.compile(rb"C(?: ([1-9][0-9]*)?)?\Z")
+
+# The letters that a record of a version can begin with: where a script was asked, and where the verdict was kept from an earlier run.
+RECORD_LETTERS = {1: b"R", 2: b"RK"}
 
 
 class Record(NamedTuple):
-    """A text got its verdict."""
+    """A text got its verdict: from a script, or kept from an earlier run."""
 
     yes: bool
     text: bytes
+    kept: bool = False
 
 
 class Commit(NamedTuple):
@@ -71,11 +75,12 @@ class BadEvent(Exception):
 def read_journal(data):
     """The journal of these bytes. BadHead and BadEvent say why there is none."""
     version, start, at = head_of(data)
+    letters = RECORD_LETTERS[version]
     events = []
     records = 0
     torn = 0
     while at < len(data):
-        event, end = event_at(data, at, records)
+        event, end = event_at(data, at, records, letters)
         if event is None:
             torn = len(data) - at
             break
@@ -108,11 +113,11 @@ def first_text_digest(events):
     return hashlib.sha256(events[0].text).hexdigest() if events else None
 
 
-def event_at(data, at, records):
-    """The event at this offset after so many records, and where it ends; no event at a torn tail."""
+def event_at(data, at, records, letters):
+    """The event at this offset after so many records, which begin with these letters, and where it ends; no event at a torn tail."""
     line_end = data.find(b"\n", at)
     if line_end < 0:
-        if is_front(data[at:], records):
+        if is_front(data[at:], records, letters):
             return None, at
         raise BadEvent(at)
     line = data[at:line_end + 1]
@@ -120,28 +125,28 @@ def event_at(data, at, records):
     if commit and is_number(commit[1], records):
         return Commit(int(commit[1])), line_end + 1
     record = RECORD_LINE.fullmatch(line)
-    if record and is_number(record[2], LONGEST_TEXT):
-        return record_at(data, at, line_end + 1, record[1] == b"y", int(record[2]))
+    if record and record[1] in letters and is_number(record[3], LONGEST_TEXT):
+        return record_at(data, at, line_end + 1, record)
     raise BadEvent(at)
 
 
-def record_at(data, at, text_start, yes, length):
-    """The record whose first line is at this offset, and where it ends."""
-    text_end = text_start + length
+def record_at(data, at, text_start, line):
+    """The record at this offset, of which this is the first line, and where it ends."""
+    text_end = text_start + int(line[3])
     if text_end >= len(data):
         return None, at
     if data[text_end:text_end + 1] != b"\n":
         raise BadEvent(at)
-    return Record(yes, data[text_start:text_end]), text_end + 1
+    return Record(line[2] == b"y", data[text_start:text_end], line[1] == b"K"), text_end + 1
 
 
-def is_front(rest, records):
+def is_front(rest, records, letters):
     """Whether the first line of some event that can come after so many records begins with these bytes."""
     commit = COMMIT_FRONT.match(rest)
     if commit and records > 0:
         return commit[1] is None or is_number(commit[1], records)
     record = RECORD_FRONT.match(rest)
-    return record is not None and (record[1] is None or is_number(record[1], LONGEST_TEXT))
+    return record is not None and record[1] in letters and (record[2] is None or is_number(record[2], LONGEST_TEXT))
 
 
 def is_number(digits, greatest):

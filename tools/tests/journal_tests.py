@@ -22,7 +22,7 @@ ONE = HEAD + b"R y 1\na\n"
 START = b"a=1;b=2;c=3;"
 HEAD_2 = b"perses-journal 2\nS " + hashlib.sha256(START).hexdigest().encode() + b"\n"
 WORKED_2 = HEAD_2 + WORKED[len(HEAD):]
-ONE_2 = HEAD_2 + b"R y 1\na\n"
+ONE_2 = HEAD_2 + b"K y 1\na\n"
 EMPTY_START = b"perses-journal 2\nS e3b0c44298fc1c149afbf4c8996fb92427ae41e4649b934ca495991b7852b855\nR y 0\n\nC 1\n"
 
 EVENTS = [
@@ -35,6 +35,8 @@ TAILS = [
     (ONE, b"C", True), (ONE, b"C ", True), (ONE, b"C 1", True), (ONE, b"C 2", False), (ONE, b"C 0", False), (ONE, b"C 01", False), (ONE, b"C 1 ", False),
     (HEAD, b"C", False), (HEAD, b"R", True), (HEAD, b"R y ", True), (HEAD, b"R y 1048576", True), (HEAD, b"R y 1048577", False), (HEAD, b"R y 00", False),
     (HEAD, b"R x", False), (HEAD, b"R y 0", True), (HEAD, b"R y 0\n", True), (HEAD, b"R y 0\nx", False), (HEAD, b"R y 2\nab", True), (HEAD, b"R y 2\nabc", False),
+    (HEAD, b"K", False), (HEAD, b"K y 1\na\n", False), (ONE, b"K n 0\n\n", False),
+    (HEAD_2, b"K", True), (HEAD_2, b"K ", True), (HEAD_2, b"K y 1048576", True), (HEAD_2, b"K y 1048577", False), (HEAD_2, b"K y 1\na", True), (HEAD_2, b"K x", False),
     (HEAD_2, b"R", True), (HEAD_2, b"R y 1048576", True), (HEAD_2, b"R y 1048577", False), (HEAD_2, b"R y 1\na", True), (HEAD_2, b"R y 00", False),
     (HEAD_2, b"C", False), (ONE_2, b"C 1", True), (ONE_2, b"C 2", False), (HEAD_2, b"S", False), (HEAD_2, b"k", False),
     (HEAD, b"\n", False), (HEAD, b"r", False), (HEAD, b"R y 1\n\xff", True), (HEAD, b"R  ", False), (HEAD, b"R y -1", False), (HEAD, b"R y 9999999999", False),
@@ -62,8 +64,13 @@ class Reading(unittest.TestCase):
         self.assertEqual(read_journal(HEAD + b"R y 2\na"), (1, None, [], 7))
         self.assertEqual(read_journal(HEAD_2), (2, hashlib.sha256(START).hexdigest(), [], 0))
 
+    def test_reads_kept_records(self):
+        journal = read_journal(HEAD_2 + b"K n 0\n\nR y 1\na\nK y 0\n\nC 3\n")
+        self.assertEqual(journal.events, [Record(False, b"", True), Record(True, b"a"), Record(True, b"", True), Commit(3)])
+
     def test_reads_each_prefix_as_its_first_events(self):
-        for whole, head in ((WORKED, HEAD), (WORKED_2, HEAD_2)):
+        for whole, head in ((WORKED, HEAD), (WORKED_2, HEAD_2), (ONE_2 + WORKED[len(HEAD):], HEAD_2)):
+            events = read_journal(whole).events
             for length in range(len(whole) + 1):
                 with self.subTest(length=length):
                     if length < len(head):
@@ -71,7 +78,7 @@ class Reading(unittest.TestCase):
                         self.assertTrue(is_head_front(whole[:length]))
                         continue
                     journal = read_journal(whole[:length])
-                    self.assertEqual(journal.events, EVENTS[:len(journal.events)])
+                    self.assertEqual(journal.events, events[:len(journal.events)])
                     self.assertLess(journal.torn, 20)
 
     def test_tells_what_is_no_head(self):
@@ -111,6 +118,7 @@ class CommandLine(unittest.TestCase):
         lines = output.decode().splitlines()
         self.assertEqual(lines[0], "record 1: yes, 12 bytes, 'a=1;b=2;c=3;'")
         self.assertEqual(lines[-2:], ["  answered with record 2", "torn tail of 8 bytes"])
+        self.assertEqual(self.run_on(ONE_2)[1], b"record 1: yes, kept, 1 bytes, 'a'\n")
 
     def test_writes_the_text_of_a_record(self):
         self.assertEqual(self.run_on(WORKED, "--text", "3"), (0, b"a=1;\n", b""))

@@ -10,8 +10,10 @@ use Rattle.script_gate_trait.specs.declared.log.Log.{Log}
 use Rattle.script_gate_trait.specs.Rule.{rule_verdict}
 use Rattle.verdict_table.specs.declared.record.Record.{Record}
 use Rattle.verdict_table.specs.TableState.{verdict_in}
-use Rattle.reduce_journal.specs.History.{records_of}
+use Rattle.reduce_journal.specs.History.{History, asked_records_of, records_of}
 use Rattle.reduce_journal.specs.declared.counts.Counts.{Counts}
+use Rattle.ordered_commit_moves.specs.Replay.{AllGoWith}
+use Rattle.ordered_commit_moves.proofs.Lent.{none_recalled}
 use Rattle.run_gated.specs.Seen.{SeenGate, fault_counts_of, seen_gates}
 use Rattle.run_gated.specs.Run.{Run}
 use Rattle.run_gated.specs.Records.{FirstIs}
@@ -32,6 +34,12 @@ use Rattle.reduce_journal.specs.Report.{first_lines}
 use Rattle.case_reduction.specs.Summary.{IsCaseProblem, IsSummary, admits_all}
 use Rattle.case_reduction.proofs.Alike.{BySaid, by_rule, over_each}
 use Rattle.case_reduction.proofs.CaseTrees.{begins_with_case}
+
+-- where no verdict is kept, the rule says all verdicts
+pub all_said : (kept : List Record) (history : History) → kept ≡ [] → AllGoWith (verdict_in kept) history
+    → BySaid (asked_records_of history) → BySaid (records_of history)
+all_said kept history none resumed asked =
+    subst BySaid (none_recalled history (subst (λ (rs : List Record). AllGoWith (verdict_in rs) history) none resumed)) asked
 
 -- a count that is zero didn't rise
 never_rose : (count : ℕ) → Rose count 0 → ⊥
@@ -71,7 +79,8 @@ module _ (mode : TreeMode) (number size : ℕ) (problem : Problem) (of : IsCaseP
   only_memory log workers gates quiet get_yes some run_fault.Memory why = refl
 
   -- the report's first lines and the text are the summary
-  pub is_summary : ProblemsReduceAlike → (text : List ℕ) (counts : Counts) → ReducesFrom run.workers admits_all problem run.history text counts
+  pub is_summary : ProblemsReduceAlike → (text : List ℕ) (counts : Counts) → ReducesFrom run.workers (verdict_in run.kept) admits_all problem run.history
+      text counts
       → IsSummary mode number size (first_lines counts ++ text)
   is_summary alike text counts came =
       let records : List Record = records_of run.history in

@@ -16,9 +16,8 @@ use faults::Memory;
 use grammar_load::{GrammarFault, checked_grammar};
 use grammar_tree::Checked;
 use keep_guard::{Guard, KeepTexts};
-use reduce_journal::digest_of;
 use reduce_trees_input::{InputFault, parsed_input};
-use run_gated::{Ran, RunFault};
+use run_gated::{Known, Ran, RunFault};
 use run_problem::{ReadProblem, TreeMode, problems_reduce_alike, run_problem};
 use script_gate_trait::RuleGate;
 use std::alloc::Global;
@@ -100,9 +99,9 @@ pub fn case_summary<W: Threads + Wait + Sync>(
     let problem = case_problem(alloc, number, size, mode)?;
     let guard = Guard::new(KeepTexts::new(alloc));
     let mut workers = [Worker::new(RuleGate::<RULE>::new(alloc, false), 1)];
-    let digest = digest_of(problem.start());
+    let known = Known::of_start(alloc, problem.start());
     let journal = NullSink::new();
-    let Ran { outcome, .. } = run_problem(rt, alloc, problem, guard, &mut workers, journal, digest);
+    let Ran { outcome, .. } = run_problem(rt, alloc, problem, guard, &mut workers, journal, known);
     match outcome {
         Ok(reduced) => summary(alloc, &reduced),
         Err(fault) => Err(memory_of(fault)),

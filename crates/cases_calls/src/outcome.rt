@@ -67,7 +67,7 @@ fn add_record(
 /// The records of the journal, each on a line.
 fn add_records(shown: &mut String, alloc: Global, events: &[Event]) -> Result<()> {
     for event in events {
-        if let Event::Recorded { text, verdict } = event {
+        if let Event::Recorded { text, verdict, .. } = event {
             add_record(shown, alloc, "", text, *verdict)?;
         }
     }
@@ -93,7 +93,7 @@ fn add_commits(shown: &mut String, alloc: Global, events: &[Event]) -> Result<()
 fn record_at(events: &[Event], number: u64) -> Result<(&Bytes, Verdict)> {
     let mut count: u64 = 0;
     for event in events {
-        if let Event::Recorded { text, verdict } = event {
+        if let Event::Recorded { text, verdict, .. } = event {
             count = count.saturating_add(1);
             if count == number {
                 return Ok((text, *verdict));

@@ -19,7 +19,7 @@ use Rattle.cert_check.specs.Laws.{LegalHistoriesFollow}
 follow_from : (V : List ℕ → Option Verdict) (es : List Record) (p : Plan) (h : History) → Extends V (es ++ records_of h) → CommitsWhatIsAsked es p h
     → follow V p ≡ follow V (replay_from es p h)
 follow_from V es p [] extends c = refl
-follow_from V es p (Recorded t v ∷ h) extends c =
+follow_from V es p (Recorded t v k ∷ h) extends c =
     let r : Record = record { text = t; verdict = v } in
     follow_from V (es ++ r ∷ []) p h (subst (Extends V) (sym (append_assoc es (r ∷ []) (records_of h))) extends) c
 follow_from V es p (Committed n ∷ h) extends c =
@@ -37,14 +37,14 @@ legal_histories_follow first history legal V extends = follow_from V [] first hi
 commits_take : (es : List Record) (p : Plan) (h : History) (n : ℕ) → CommitsWhatIsAsked es p h → CommitsWhatIsAsked es p (take n h)
 commits_take es p h zero c = tt
 commits_take es p [] (suc n) c = tt
-commits_take es p (Recorded t v ∷ h) (suc n) c = commits_take (es ++ record { text = t; verdict = v } ∷ []) p h n c
+commits_take es p (Recorded t v k ∷ h) (suc n) c = commits_take (es ++ record { text = t; verdict = v } ∷ []) p h n c
 commits_take es p (Committed m ∷ h) (suc n) c = (c.0, c.1, c.2, commits_take es (after p (c.0).verdict) h n c.3)
 
 -- the records of a history are those of a beginning and then those of what comes after it
 pub records_take : (h : History) (n : ℕ) → records_of h ≡ records_of (take n h) ++ records_of (drop n h)
 records_take h zero = refl
 records_take [] (suc n) = refl
-records_take (Recorded t v ∷ h) (suc n) = ap (λ (rs : List Record). record { text = t; verdict = v } ∷ rs) (records_take h n)
+records_take (Recorded t v k ∷ h) (suc n) = ap (λ (rs : List Record). record { text = t; verdict = v } ∷ rs) (records_take h n)
 records_take (Committed m ∷ h) (suc n) = records_take h n
 
 -- A beginning of a history that a reducer can have is one too.

@@ -1,10 +1,8 @@
 -- Records by their numbers.
-use Rattle.std.proofs.Common.{◌≡◌, ◌<◌, ◌≤◌, ◌+◌, ◌++◌, ◌||◌, not, ℕ, zero, suc, List, [], ◌∷◌, All, Bool, true, false, cond, Option, Some}
+use Rattle.std.proofs.Common.{◌≡◌, ◌<◌, ◌≤◌, ◌+◌, ◌||◌, ℕ, zero, suc, List, [], ◌∷◌, All, Bool, true, false, cond, Option, Some}
 use Rattle.std.proofs.Common.{None, find, option_map, length, get_or, slice_get, take, unwrap_or, arith, refl, sym, ap, ◌∙◌, subst}
-use Rattle.std.specs.Prelude.{IfSome}
 use Rattle.std.specs.List.{AllByRecursion, IsDistinct, list_any}
 use Rattle.std.specs.Str.{bytes_eq}
-use Rattle.std.proofs.lemmas.Cmp.{nat_eq_equiv}
 use Rattle.std.proofs.lemmas.List.Elements.{All-head, All-tail}
 use Rattle.std.proofs.lemmas.Map.Keys.{IsDistinct-head, IsDistinct-tail}
 use Rattle.std.proofs.lemmas.Option.{slice_get_read}
@@ -14,7 +12,7 @@ use Rattle.verdict_table.specs.declared.found.Found.{Found}
 use Rattle.verdict_table.specs.declared.found.Found.TheVariants.{Absent, Claimed, Filled}
 use Rattle.verdict_table.specs.declared.record.Record.{Record}
 use Rattle.verdict_table.specs.declared.table.Claim.{Claim}
-use Rattle.verdict_table.specs.TableState.{TableState, claim_in, found_in, other_claims, record_from, text_claimed, texts_of}
+use Rattle.verdict_table.specs.TableState.{TableState, found_in, record_from, texts_of}
 use Rattle.ordered_commit_moves.specs.Replay.{record_at}
 use Rattle.cert_check.specs.Findings.{IsFirstOther}
 use Rattle.cert_check.specs.inner.Replayed.{is_absent}
@@ -46,25 +44,6 @@ other_found Is rs k r all at other number is = record {
 }
 
 -- ---- what a table holds
-
--- a text that none of the records has isn't found among them
-not_recorded : (n : ℕ) (text : List ℕ) (rs : List Record) (filled : List ℕ) → list_any (bytes_eq text) (texts_of rs) ≡ false
-    → record_from n text rs filled ≡ None
-not_recorded n text [] filled none = refl
-not_recorded n text (r ∷ rs) [] none = refl
-not_recorded n text (r ∷ rs) (c ∷ cs) none = step (bytes_eq text r.text) none (not_recorded (n + 1) text rs cs)
-  where
-    step : (b : Bool) → (b || list_any (bytes_eq text) (texts_of rs)) ≡ false
-        → (list_any (bytes_eq text) (texts_of rs) ≡ false → record_from (n + 1) text rs cs ≡ None)
-        → cond b (Some (Filled c n r.verdict)) (record_from (n + 1) text rs cs) ≡ None
-    step true none later = absurd (cc none)
-    step false none later = later none
-
-pub absent_where : (table : TableState) (text : List ℕ) → table.claims ≡ [] → list_any (bytes_eq text) (texts_of table.records) ≡ false
-    → found_in table text ≡ Absent
-absent_where table text closed none =
-    ap (λ (o : Option Found). unwrap_or o (unwrap_or (claim_in text table.claims) Absent)) (not_recorded 1 text table.records table.filled none)
-    ∙ ap (λ (cs : List Claim). unwrap_or (claim_in text cs) Absent) closed
 
 record_at_first : (b : Bool) (claim n k : ℕ) (text : List ℕ) (r : Record) (rs : List Record) (later : Option Found) (c : ℕ) (v : Verdict)
     → b ≡ bytes_eq text r.text
@@ -116,25 +95,6 @@ not_of text (q ∷ rs) (suc (suc n)) r none at same = not_of text rs (suc n) r (
     later : (b : Bool) → (b || list_any (bytes_eq text) (texts_of rs)) ≡ false → list_any (bytes_eq text) (texts_of rs) ≡ false
     later true none = absurd (cc none)
     later false none = none
-
--- ---- a claim that is filled
-
-only_claim : (claim : ℕ) (text : List ℕ) → other_claims claim (record { number = claim; text = text } ∷ []) ≡ []
-only_claim claim text = ap (λ (b : Bool). cond (not b) (record { number = claim; text = text } ∷ []) []) (nat_eq_equiv.refl claim)
-
-pub filled_so : (old mid new : TableState) (claim : ℕ) (text : List ℕ) (verdict : Verdict)
-    → mid ≡ record { claims = old.claims ++ record { number = claim; text = text } ∷ []; records = old.records; filled = old.filled }
-    → text_claimed claim mid.claims ≡ Some text
-    → IfSome (text_claimed claim mid.claims) (λ t. new.records ≡ mid.records ++ record { text = t; verdict = verdict } ∷ [])
-    → new.claims ≡ other_claims claim mid.claims
-    → old.claims ≡ [] → (new.records ≡ old.records ++ record { text = text; verdict = verdict } ∷ []) × (new.claims ≡ [])
-filled_so old mid new claim text verdict is opened recorded closed none =
-    let records : new.records ≡ mid.records ++ record { text = text; verdict = verdict } ∷ [] =
-    subst (λ (o : Option (List ℕ)). IfSome o (λ t. new.records ≡ mid.records ++ record { text = t; verdict = verdict } ∷ [])) opened recorded in (
-      records ∙ ap (λ (t : TableState). t.records ++ record { text = text; verdict = verdict } ∷ []) is,
-      closed ∙ ap (λ (t : TableState). other_claims claim t.claims) is
-          ∙ ap (λ (cs : List Claim). other_claims claim (cs ++ record { number = claim; text = text } ∷ [])) none ∙ only_claim claim text,
-    )
 
 -- ---- distinct texts
 

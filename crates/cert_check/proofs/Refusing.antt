@@ -11,7 +11,7 @@ use Rattle.script_gate_trait.specs.declared.gate.Verdict.{Verdict}
 use Rattle.verdict_table.specs.declared.record.Record.{Record}
 use Rattle.verdict_table.specs.declared.found.Found.TheVariants.{Absent}
 use Rattle.verdict_table.specs.TableState.{TableState, found_in, texts_of}
-use Rattle.verdict_table.proofs.Lent.{not_among}
+use Rattle.verdict_table.proofs.Lent.{absent_where, not_among}
 use Rattle.reduce_step.specs.Plan.{Plan, after, asked}
 use Rattle.reduce_journal.specs.declared.event.Event.TheVariants.{Recorded, Committed}
 use Rattle.reduce_journal.specs.History.{History, records_of}
@@ -21,7 +21,7 @@ use Rattle.cert_check.specs.Findings.{IsFirstIllegal}
 use Rattle.cert_check.specs.inner.Asked.{IsRecordOf}
 use Rattle.cert_check.specs.inner.Replayed.{IsReplayed}
 use Rattle.cert_check.proofs.Legal.{legal_take}
-use Rattle.cert_check.proofs.Numbered.{absent_where, not_of, one_number}
+use Rattle.cert_check.proofs.Numbered.{not_of, one_number}
 
 -- the last of distinct texts is none of those before it
 last_apart : (texts : List (List ℕ)) (text : List ℕ) → IsDistinct bytes_eq (texts ++ text ∷ []) → list_any (bytes_eq text) texts ≡ false
@@ -36,19 +36,20 @@ last_apart (t ∷ texts) text distinct =
     at_last t (u ∷ texts) text all = at_last t texts text all.1
 
 -- a text that is recorded next has no record
-pub recorded_is_new : (first : Plan) (history : History) (text : List ℕ) (verdict : Verdict) → IsLegal first (history ++ Recorded text verdict ∷ [])
+pub recorded_is_new : (first : Plan) (history : History) (text : List ℕ) (verdict : Verdict) (kept : Bool)
+    → IsLegal first (history ++ Recorded text verdict kept ∷ [])
     → list_any (bytes_eq text) (texts_of (records_of history)) ≡ false
-recorded_is_new first history text verdict legal =
+recorded_is_new first history text verdict kept legal =
     let r : Record = record { text = text; verdict = verdict } in
-    let texts : texts_of (records_of (history ++ Recorded text verdict ∷ [])) ≡ texts_of (records_of history) ++ text ∷ [] =
-    ap texts_of (records_more history text verdict) ∙ map-append (λ (q : Record). q.text) (records_of history) (r ∷ []) in
+    let texts : texts_of (records_of (history ++ Recorded text verdict kept ∷ [])) ≡ texts_of (records_of history) ++ text ∷ [] =
+    ap texts_of (records_more history text verdict kept) ∙ map-append (λ (q : Record). q.text) (records_of history) (r ∷ []) in
     last_apart (texts_of (records_of history)) text (subst (IsDistinct bytes_eq) texts legal.distinct)
 
 -- a commit names a record of what is asked
 commit_from : (es : List Record) (p : Plan) (h : History) (n : ℕ) → CommitsWhatIsAsked es p (h ++ Committed n ∷ []) → (r : Record)
     × (record_at n (es ++ records_of h) ≡ Some r) × (asked (replay_from es p h) ≡ Some r.text)
 commit_from es p [] n c = (c.0, ap (record_at n) (append-nil es) ∙ c.1, c.2)
-commit_from es p (Recorded t v ∷ h) n c =
+commit_from es p (Recorded t v k ∷ h) n c =
     let q : Record = record { text = t; verdict = v } in
     moved es q h p n (commit_from (es ++ q ∷ []) p h n c)
   where
@@ -69,10 +70,11 @@ committed_is_asked first history number legal = commit_from [] first history num
 
 module _ (first : Plan) (history : History) (plan : Plan) (table : TableState) (marks : List Bool) (it : IsReplayed first history plan table marks) where
   -- a text that has a record can't be recorded
-  pub recorded_again : (text : List ℕ) (verdict : Verdict) → ¬ (found_in table text ≡ Absent) → ¬ IsLegal first (history ++ Recorded text verdict ∷ [])
-  recorded_again text verdict there legal =
+  pub recorded_again : (text : List ℕ) (verdict : Verdict) (kept : Bool) → ¬ (found_in table text ≡ Absent)
+      → ¬ IsLegal first (history ++ Recorded text verdict kept ∷ [])
+  recorded_again text verdict kept there legal =
       let none : list_any (bytes_eq text) (texts_of table.records) ≡ false =
-      ap (λ (rs : List Record). list_any (bytes_eq text) (texts_of rs)) it.records ∙ recorded_is_new first history text verdict legal in
+      ap (λ (rs : List Record). list_any (bytes_eq text) (texts_of rs)) it.records ∙ recorded_is_new first history text verdict kept legal in
       there (absent_where table text it.closed none)
 
   -- the record that a commit has to name

@@ -12,19 +12,14 @@ use Rattle.std.proofs.lemmas.Map.Keys.{IsDistinct-push}
 use Rattle.script_gate_trait.specs.declared.gate.Verdict.{Verdict}
 use Rattle.verdict_table.specs.declared.record.Record.{Record}
 use Rattle.verdict_table.specs.TableState.{TableState, texts_of}
-use Rattle.reduce_step.specs.Plan.{Ask, End, MayAsk, Plan, after, asked}
+use Rattle.reduce_step.specs.Plan.{MayAsk, Plan, after, asked}
 use Rattle.reduce_step.proofs.Lent.{after_may}
 use Rattle.reduce_journal.specs.declared.event.Event.TheVariants.{Recorded, Committed}
 use Rattle.reduce_journal.specs.History.{History, records_of}
 use Rattle.ordered_commit_moves.specs.Replay.{answered, record_at, replay}
-use Rattle.ordered_commit_moves.proofs.Lent.{commits_commit, commits_record, records_more, records_same, replay_commit, replay_record}
+use Rattle.ordered_commit_moves.proofs.Lent.{asked_may, commits_commit, commits_record, records_more, records_same, replay_commit, replay_record}
 use Rattle.cert_check.specs.inner.Asked.{MarkedMayBeAsked}
 use Rattle.cert_check.specs.inner.Replayed.{IsReplayed}
-
--- what is asked may be asked
-asked_may : (p : Plan) (text : List ℕ) → asked p ≡ Some text → MayAsk p text
-asked_may (End result) text asks = absurd (cc asks)
-asked_may (Ask t at_yes at_no) text asks = inl (cc asks)
 
 -- a mark that is set before one more that isn't
 marked_before : (marks : List Bool) (index : ℕ) → slice_get (marks ++ false ∷ []) index ≡ Some true → slice_get marks index ≡ Some true
@@ -82,22 +77,22 @@ marked_more first plan records marks number r plan' marks' at asks goes_on marke
 
 module _ (first : Plan) (history : History) (plan : Plan) (table : TableState) (marks : List Bool) (it : IsReplayed first history plan table marks) where
   -- a record of a text that has none yet
-  pub recorded : (text : List ℕ) (verdict : Verdict) (table' : TableState) (marks' : List Bool)
+  pub recorded : (text : List ℕ) (verdict : Verdict) (kept : Bool) (table' : TableState) (marks' : List Bool)
       → table'.records ≡ table.records ++ record { text = text; verdict = verdict } ∷ [] → table'.claims ≡ [] → marks' ≡ marks ++ false ∷ []
-      → list_any (bytes_eq text) (texts_of table.records) ≡ false → IsReplayed first (history ++ Recorded text verdict ∷ []) plan table' marks'
-  recorded text verdict table' marks' records closed marked absent =
+      → list_any (bytes_eq text) (texts_of table.records) ≡ false → IsReplayed first (history ++ Recorded text verdict kept ∷ []) plan table' marks'
+  recorded text verdict kept table' marks' records closed marked absent =
       let r : Record = record { text = text; verdict = verdict } in
-      let more : records_of (history ++ Recorded text verdict ∷ []) ≡ records_of history ++ r ∷ [] = records_more history text verdict in
-      let texts : texts_of (records_of (history ++ Recorded text verdict ∷ [])) ≡ texts_of (records_of history) ++ text ∷ [] =
+      let more : records_of (history ++ Recorded text verdict kept ∷ []) ≡ records_of history ++ r ∷ [] = records_more history text verdict kept in
+      let texts : texts_of (records_of (history ++ Recorded text verdict kept ∷ [])) ≡ texts_of (records_of history) ++ text ∷ [] =
       ap texts_of more ∙ map-append (λ (q : Record). q.text) (records_of history) (r ∷ []) in
       let none : list_any (bytes_eq text) (texts_of (records_of history)) ≡ false =
       ap (λ (rs : List Record). list_any (bytes_eq text) (texts_of rs)) (sym it.records) ∙ absent in
       record {
         legal = record {
           distinct = subst (IsDistinct bytes_eq) (sym texts) (IsDistinct-push nat_list_eq_equiv (texts_of (records_of history)) text (it.legal).distinct none);
-          commits = commits_record [] first history text verdict (it.legal).commits;
+          commits = commits_record [] first history text verdict kept (it.legal).commits;
         };
-        plan_is = it.plan_is ∙ sym (replay_record [] first history text verdict);
+        plan_is = it.plan_is ∙ sym (replay_record [] first history text verdict kept);
         records = records ∙ ap (λ (rs : List Record). rs ++ r ∷ []) it.records ∙ sym more;
         closed = closed;
         one_each =

@@ -1,6 +1,6 @@
 //! A history as a reducer has it, event by event.
 
-ghost use Rattle.std.specs.Prelude.{◌≡◌, [], ◌∷◌, ◌++◌, true, IfOk, MatchOption, None};
+ghost use Rattle.std.specs.Prelude.{◌≡◌, [], ◌∷◌, ◌++◌, Bool, true, IfOk, MatchOption, None};
 ghost use Rattle.verdict_table.specs.TableState.{found_in, verdict_in};
 ghost use Rattle.reduce_step.specs.Plan.{Plan};
 ghost use Rattle.reduce_journal.specs.History.{History};
@@ -47,12 +47,12 @@ impl<S: Step + Drop> Replayed<S> {
         }
     }
 
-    /// Takes in a record. False where its text has one already.
+    /// Takes in a record, which may be kept. False where its text has one already.
     fn record(&mut self, text: &Bytes, verdict: Verdict) -> Result<bool, Memory>
         ensures first { S.first self.new.reducer ≡ S.first self.old.reducer }
-        ensures taken { IfOk result (λ legal. (first : Plan) (history : History)
+        ensures taken { (kept : Bool) → IfOk result (λ legal. (first : Plan) (history : History)
             → IsReplayed first history (S.plan self.old.reducer) self.old.table self.old.marks.items
-            → IsTaken legal first (history ++ Recorded text.now verdict ∷ []) (S.plan self.new.reducer) self.new.table self.new.marks.items) }
+            → IsTaken legal first (history ++ Recorded text.now verdict kept ∷ []) (S.plan self.new.reducer) self.new.table self.new.marks.items) }
     {
         if !is_new(&self.table, text.as_slice()) {
             return Ok(false);
@@ -90,7 +90,7 @@ impl<S: Step + Drop> Replayed<S> {
             → IsTaken legal first (history ++ event.now ∷ []) (S.plan self.new.reducer) self.new.table self.new.marks.items) }
     {
         match event {
-            Event::Recorded { text, verdict } => self.record(text, *verdict),
+            Event::Recorded { text, verdict, .. } => self.record(text, *verdict),
             Event::Committed { number } => self.commit(*number),
         }
     }

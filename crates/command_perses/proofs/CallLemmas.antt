@@ -60,7 +60,7 @@ module _ (may_say : List ℕ → Verdict → Type 0) (old : World) (out : SeenOu
         journal_failed = λ failed. absurd (failed refl);
         out_failed = λ failed is. cc is;
       };
-      sound = none_sound options may_say [] (logs_of old.gates) (logs_of old.gates) old.journal old.journal refl refl refl;
+      sound = none_sound options may_say [] [] (logs_of old.gates) (logs_of old.gates) old.journal old.journal refl refl refl;
       of_input = inl (untouched, digest_is []);
       others = refl;
     }

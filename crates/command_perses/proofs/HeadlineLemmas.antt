@@ -1,5 +1,5 @@
 -- The headline, from how `reduce` ends.
-use Rattle.std.proofs.Common.{◌≡◌, ◌≢◌, ◌⊎◌, ◌∙◌, inl, inr, ⊎_elim, ℕ, List, [], ◌∷◌, Option, Some, None, IsSome, true, refl, sym, ap, subst}
+use Rattle.std.proofs.Common.{◌≡◌, ◌≢◌, ◌⊎◌, ◌∙◌, inl, inr, ⊎_elim, ℕ, List, [], ◌∷◌, Option, Some, None, IsSome, All, true, refl, sym, ap, subst}
 use Rattle.std.proofs.lemmas.Bool.{and_parts, false≢true}
 use Rattle.std.proofs.lemmas.Option.{same_Some}
 use Rattle.edge_io.specs.Files.{FileContent, Holds}
@@ -7,12 +7,15 @@ use Rattle.script_gate_trait.specs.declared.gate.Verdict.{Verdict}
 use Rattle.script_gate_trait.specs.declared.gate.Verdict.TheVariants.{Yes}
 use Rattle.grammar_tree.specs.Written.{CheckedGrammar}
 use Rattle.keep_guard.specs.Keep.{holds_all}
+use Rattle.verdict_table.specs.declared.record.Record.{Record}
+use Rattle.verdict_table.specs.TableState.{texts_of}
 use Rattle.reduce_journal.specs.History.{History, IsHistory, records_of}
 use Rattle.reduce_journal.specs.Journal.{IsDigest, IsDigestOf, journal_text}
 use Rattle.reduce_journal.specs.declared.digest.Digest.{Digest}
 use Rattle.reduce_journal.specs.Report.{report_text}
 use Rattle.reduce_journal.specs.declared.counts.Counts.{Counts}
 use Rattle.reduce_trees_input.specs.Parsed.{IsInputOf}
+use Rattle.ordered_commit_moves.proofs.Lent.{none_recalled}
 use Rattle.run_gated.specs.Records.{OnlyNo}
 use Rattle.run_problem.specs.Committed.{questions_over}
 use Rattle.run_problem.specs.Ends.{AreOf, ReducesFrom}
@@ -22,10 +25,10 @@ use Rattle.run_problem.proofs.Lent.{none_of}
 use Rattle.command_words.specs.Commands.{Command, ModeOptions, ReduceOptions}
 use Rattle.command_grammar.proofs.Lent.{one_grammar}
 use Rattle.command_ends.specs.Status.{IsOneOf}
-use Rattle.command_ends.specs.World.{NotReached, Puts, SeenFiles, World}
+use Rattle.command_ends.specs.World.{NotReached, Puts, SeenFiles, World, logs_of}
 use Rattle.command_reduce_calls.specs.Journal.{JournalSoFar}
 use Rattle.command_reduce_calls.specs.Stays.{AcceptsStart}
-use Rattle.command_reduce.specs.Reduce.{admits_of, problem_in}
+use Rattle.command_reduce.specs.Reduce.{GatesWereUsed, admits_of, none_kept, problem_in}
 use Rattle.command_reduce.specs.Reduce.{IsHistoryOfInput, IsHistoryWith, ProblemAccepted, ReduceEnds, ReduceMustEnd, Reduces, ReducesTo}
 use Rattle.command_reduce.specs.Reduce.ReduceEnds.{done, memory, script, uninteresting, unput, unwritten}
 use Rattle.command_reduce.specs.ReduceByStatus.{ReduceMeans}
@@ -92,7 +95,7 @@ module _ (options : ReduceOptions) (start : Digest) (history : History) (old new
   problem_of (inl none) = (
     Problem.of_lines [],
     λ reached. absurd (reached none.0),
-    (none.1, none_of options.jobs (admits_of options (Problem.of_lines [])) (Problem.of_lines []) history none.0.no_history),
+    (none.1, none_of options.jobs none_kept (admits_of options (Problem.of_lines [])) (Problem.of_lines []) history none.0.no_history),
   )
   problem_of (inr are) =
       let it : (problem : Problem) × IsProblemOf options old.files problem × IsHistoryWith options start history problem =
@@ -103,7 +106,7 @@ module _ (options : ReduceOptions) (start : Digest) (history : History) (old new
   record ResultOf (problem : Problem) (status : ℕ) : Type 0 where
     text : List ℕ
     counts : Counts
-    reduces : ReducesFrom options.jobs (admits_of options problem) problem history text counts
+    reduces : ReducesFrom options.jobs none_kept (admits_of options problem) problem history text counts
     written : WasWritten old.files new.files status → Holds text (new.files.shown options.output)
     report : status ≡ 0 → Puts (report_text counts) old.out new.out
 
@@ -118,9 +121,10 @@ module _ (options : ReduceOptions) (start : Digest) (history : History) (old new
       → (WasWritten old.files new.files status → Holds text (new.files.shown options.output)) → (status ≡ 0 → Puts report old.out new.out) → HasCome status
   come text report reduces written put =
       let P : Problem → Type 0 =
-      λ problem. IsDigestOf (start_text problem) start × (counts : Counts) × ReducesFrom options.jobs (admits_of options problem) problem history text counts
+      λ problem. IsDigestOf (start_text problem) start × (counts : Counts)
+      × ReducesFrom options.jobs none_kept (admits_of options problem) problem history text counts
       × (report ≡ report_text counts)
-      × AreOf options.jobs (admits_of options problem) problem history in
+      × AreOf options.jobs none_kept (admits_of options problem) problem history in
       let it : (problem : Problem) × IsProblemOf options old.files problem × P problem = the_problem options old.files P reduces in
       record {
         problem = it.0;
@@ -175,7 +179,7 @@ module _ (one_history : BytesHaveOneHistory) (bounded : AnswersAreBounded) (may_
   means = reduce_by_status options start history old new status runs.ends
 
   headline_at : (problem : Problem) → (¬ NotReached history old new → IsProblemOf options old.files problem) → IsDigestOf (start_text problem) start
-      → AreOf options.jobs (admits_of options problem) problem history → (HasResult status → ResultOf options start history old new problem status)
+      → AreOf options.jobs none_kept (admits_of options problem) problem history → (HasResult status → ResultOf options start history old new problem status)
       → Headline may_say options old new status
   headline_at problem of_files of_start are result = record {
     history = history;
@@ -189,9 +193,13 @@ module _ (one_history : BytesHaveOneHistory) (bounded : AnswersAreBounded) (may_
     not_reached = means.early;
     readable = are.readable;
     only = λ digest other is_digest of_other same. one_history digest start other history is_digest of_start.0 of_other are.readable same;
-    said = runs.sound.said;
+    said =
+        subst (λ (rs : List Record). All (λ (r : Record). may_say r.text r.verdict) rs) (none_recalled history runs.sound.resumed) runs.sound.said;
+    unresumed = runs.sound.resumed;
     distinct = runs.sound.distinct;
-    asked = runs.sound.used;
+    asked =
+        subst (λ (rs : List Record). GatesWereUsed options (texts_of rs) (logs_of old.gates) (logs_of new.gates) old.journal new.journal)
+        (none_recalled history runs.sound.resumed) runs.sound.used;
     other_gates = runs.others;
     candidates = are.candidates;
     short = are.short;

@@ -11,6 +11,7 @@ use Rattle.reduce_journal.specs.History.{History, IsHistory, records_of}
 use Rattle.reduce_journal.specs.Journal.{IsDigest, IsDigestOf, journal_text}
 use Rattle.reduce_journal.specs.declared.digest.Digest.{Digest}
 use Rattle.reduce_journal.specs.Report.{report_text}
+use Rattle.ordered_commit_moves.specs.Replay.{AllGoWith}
 use Rattle.reduce_rounds.specs.Verdicts.{HasVerdicts}
 use Rattle.run_gated.specs.Records.{BeginsAt, FirstIs, FirstIsNo, OnlyNo}
 use Rattle.run_problem.specs.Committed.{IsPrefix, committed_texts, questions_over, thread_over}
@@ -23,7 +24,7 @@ use Rattle.command_ends.specs.Status.{IsOneOf}
 use Rattle.command_ends.specs.World.{AnyGateFailed, CallFailed, NotReached, Puts, SeenFiles, World, logs_of}
 use Rattle.command_reduce_calls.specs.Journal.{JournalBroken, JournalSoFar, JournalWhole}
 use Rattle.command_reduce_calls.specs.Stays.{AcceptsStart}
-use Rattle.command_reduce.specs.Reduce.{GatesWereUsed, admits_of, numbers_stay, problem_in}
+use Rattle.command_reduce.specs.Reduce.{GatesWereUsed, admits_of, none_kept, numbers_stay, problem_in}
 use Rattle.command_problem.specs.Problem.{IsShownProblem, ProblemRead}
 
 -- the content is visible of the files that are read
@@ -95,6 +96,8 @@ pub record Headline (may_say : List ℕ → Verdict → Type 0) (options : Reduc
   -- ---- the verdicts
   -- each is one that a gate may say of its text, and only `ask` gives it
   pub said : All (λ r. may_say r.text r.verdict) (records_of history)
+  -- none is kept from an earlier run, and each record says so
+  pub unresumed : AllGoWith none_kept history
   -- no text has two
   pub distinct : IsDistinct bytes_eq (texts_of (records_of history))
   -- the workers' gates were opened for the script and the input, and asked as often as there are records; or not all were opened, and there is no record.
@@ -116,7 +119,7 @@ pub record Headline (may_say : List ℕ → Verdict → Type 0) (options : Reduc
   pub journal_so_far : IsOneOf (1 ∷ 11 ∷ []) status → JournalSoFar options.journal start history old.journal new.journal
   -- at 12 it wasn't opened, or broke off in its head, and there is no history; or in an event: by one worker in the last record, or in a commit after
   -- all of the history
-  pub journal_broken : status ≡ 12 → JournalBroken options.jobs options.journal start history old.journal new.journal
+  pub journal_broken : status ≡ 12 → JournalBroken options.jobs options.journal start none_kept history old.journal new.journal
   -- at the others it and the gates are as handed in, and there is no history
   pub not_reached : ¬ IsOneOf (0 ∷ 1 ∷ 4 ∷ 8 ∷ 11 ∷ 12 ∷ []) status → NotReached history old new
   -- the start's digest and the history can be read back of the journal's bytes, and no others have them
@@ -129,8 +132,8 @@ pub record Headline (may_say : List ℕ → Verdict → Type 0) (options : Reduc
   -- where there is a result, they are all of them
   pub ended : HasResult status → committed_texts history ≡ questions_over (admits_of options problem) problem history
   -- by one worker the history is a beginning of what one thread does that asks these texts; where there is a result, all of it
-  pub alone : options.jobs ≡ 1 → IsPrefix history (thread_over (admits_of options problem) problem history)
-  pub whole : HasResult status → options.jobs ≡ 1 → history ≡ thread_over (admits_of options problem) problem history
+  pub alone : options.jobs ≡ 1 → IsPrefix history (thread_over (admits_of options problem) problem none_kept history)
+  pub whole : HasResult status → options.jobs ≡ 1 → history ≡ thread_over (admits_of options problem) problem none_kept history
   -- at 0 the report was put on `out`, and nothing else
   pub report : status ≡ 0 → Puts (report_text (counts_of (admits_of options problem) problem (records_of history))) old.out new.out
   -- ---- the run succeeds

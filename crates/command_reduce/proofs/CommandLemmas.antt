@@ -16,7 +16,9 @@ use Rattle.run_problem.specs.Read.{IsReadAs, start_read}
 use Rattle.run_problem.specs.declared.problem.ReadProblem.{ReadProblem}
 use Rattle.reduce_journal.specs.Journal.{IsDigestOf}
 use Rattle.reduce_journal.specs.declared.digest.Digest.{Digest}
-use Rattle.reduce_journal.specs.History.{History, records_of}
+use Rattle.reduce_journal.specs.History.{History}
+use Rattle.verdict_table.specs.TableState.{verdict_in}
+use Rattle.verdict_table.specs.declared.record.Record.{Record}
 use Rattle.reduce_journal.specs.Report.{report_text}
 use Rattle.reduce_journal.specs.declared.counts.Counts.{Counts}
 use Rattle.run_gated.specs.declared.ran.Reduced.{Reduced}
@@ -26,7 +28,7 @@ use Rattle.run_gated.specs.Run.{Run}
 use Rattle.script_gate_trait.specs.declared.gate.GateFault.{GateFault}
 use Rattle.script_gate_trait.specs.declared.gate.GateFault.TheVariants.{Failed as GateFailed, Memory as GateMemory}
 use Rattle.command_reduce.specs.Reduce.{GateUnopened, IsHistoryWith, ProblemAccepted, RecordsAreSound, ReduceEnds, Reduces, ReducesTo, problem_in}
-use Rattle.command_reduce.specs.Reduce.{admits_of}
+use Rattle.command_reduce.specs.Reduce.{admits_of, none_kept}
 use Rattle.command_reduce.specs.inner.Reduce.{Inside, ReduceFails, ReduceReports, ReduceSteps, beside}
 use Rattle.command_reduce_calls.specs.Journal.{JournalSoFar, JournalWhole}
 use Rattle.command_reduce.specs.inner.Read.{AcceptFails, StaysRefused, admits_read, stays_read}
@@ -88,8 +90,8 @@ module _ (options : ReduceOptions) (may_say : List ℕ → Verdict → Type 0) (
   stops_accept refusal why = record {
     start = start;
     sound =
-        none_sound options may_say (records_of history) (logs_of old.gates) (logs_of new.gates) old.journal new.journal (ap records_of none)
-        (ap logs_of same_gates) same_journal;
+        none_sound options may_say [] history (logs_of old.gates) (logs_of new.gates) old.journal new.journal none (ap logs_of same_gates)
+        same_journal;
     of_input = λ out out'. inl (untouched out out', empty);
     others = ap (drop options.jobs) same_gates;
     ends = ⊎_elim (λ problem. problem_at refusal problem) (λ stays. stays_at stays.0 refusal stays.1) why;
@@ -98,13 +100,14 @@ module _ (options : ReduceOptions) (may_say : List ℕ → Verdict → Type 0) (
 -- a problem was accepted, and its run ended, which used these gates
 module _ (options : ReduceOptions) (may_say : List ℕ → Verdict → Type 0) (start : Digest) (history : History) (old new : Inside) (part part' : List SeenGate)
     (first : AreFirst options part part' old.gates new.gates)
-    (sound : RecordsAreSound options may_say (records_of history) (logs_of part) (logs_of part') old.journal new.journal)
+    (sound : RecordsAreSound options may_say [] history (logs_of part) (logs_of part') old.journal new.journal)
     (are : ProblemAccepted options old.files (IsHistoryWith options start history)) where
   -- the run, by what it answered
   abbrev run_to : Result Reduced RunFault → Run
   run_to outcome = record {
     workers = options.jobs;
     start = start;
+    kept = [];
     before = record { gates = part; journal = old.journal };
     after = record { gates = part'; journal = new.journal };
     history = history;
@@ -130,19 +133,20 @@ module _ (options : ReduceOptions) (may_say : List ℕ → Verdict → Type 0) (
   -- the history is one of the problem, which reduces to this
   abbrev Comes : Reduced → Problem → Type 0
   Comes reduced problem =
-      IsHistoryWith options start history problem × ReducesFrom options.jobs (admits_of options problem) problem history reduced.text.items reduced.counts
+      IsHistoryWith options start history problem
+      × ReducesFrom options.jobs none_kept (admits_of options problem) problem history reduced.text.items reduced.counts
 
   abbrev Waits : Problem → Type 0
-  Waits problem = IsDigestOf (start_text problem) start × (options.jobs ≡ 1 → IsUnfinished (admits_of options problem) problem history)
+  Waits problem = IsDigestOf (start_text problem) start × (options.jobs ≡ 1 → IsUnfinished none_kept (admits_of options problem) problem history)
 
   -- without a reduction
   fault_at : (fault : RunFault) → FilesKept old.files new.files → ProblemAccepted options old.files (Fails fault)
-      → JournalAfter {A = Reduced} options.jobs options.journal start history old.journal new.journal (Err fault) → EndsBy (ending_of_run fault)
+      → JournalAfter {A = Reduced} options.jobs options.journal start none_kept history old.journal new.journal (Err fault) → EndsBy (ending_of_run fault)
   fault_at run_fault.Memory kept why ends = λ out out' put. memory kept (λ alone. all_quiet first ((some (Fails run_fault.Memory) why).1.1.1.1 alone)) ends put
   fault_at run_fault.NotInteresting kept why ends = λ out out' put.
       uninteresting
-      (but (Fails run_fault.NotInteresting) (λ problem. IsDigestOf (start_text problem) start × IsRefused options.jobs (admits_of options problem) problem
-      history)
+      (but (Fails run_fault.NotInteresting)
+      (λ problem. IsDigestOf (start_text problem) start × IsRefused options.jobs none_kept (admits_of options problem) problem history)
       (λ problem is. (is.0, is.1.0)) why) kept
       (all_quiet first (some (Fails run_fault.NotInteresting) why).1.1.1.1.gates) ends put
   fault_at (run_fault.Script worker) kept why ends = λ out out' put.
@@ -162,12 +166,12 @@ module _ (options : ReduceOptions) (may_say : List ℕ → Verdict → Type 0) (
   unopened_at worker GateMemory kept why un =
       λ out out' put. memory kept (λ alone. all_quiet first ((some (Fails run_fault.Memory) why).1.1.1.1 alone)) (JournalSoFar.untouched un.untouched) put
 
-  all_sound : RecordsAreSound options may_say (records_of history) (logs_of old.gates) (logs_of new.gates) old.journal new.journal
-  all_sound = sound_among first may_say (records_of history) old.journal new.journal sound
+  all_sound : RecordsAreSound options may_say [] history (logs_of old.gates) (logs_of new.gates) old.journal new.journal
+  all_sound = sound_among first may_say [] history old.journal new.journal sound
 
   stops_run : (fault : RunFault) (refusal : Refusal) → ending_of refusal ≡ ending_of_run fault → FilesKept old.files new.files
-      → ProblemAccepted options old.files (Fails fault) → JournalAfter {A = Reduced} options.jobs options.journal start history old.journal new.journal
-      (Err fault)
+      → ProblemAccepted options old.files (Fails fault)
+      → JournalAfter {A = Reduced} options.jobs options.journal start none_kept history old.journal new.journal (Err fault)
       → ReduceSteps options may_say history old new (Err refusal)
   stops_run fault refusal same kept why ends =
       record {
@@ -187,8 +191,8 @@ module _ (options : ReduceOptions) (may_say : List ℕ → Verdict → Type 0) (
         but (Comes reduced)
         (λ problem.
         IsDigestOf (start_text problem) start × (counts : Counts)
-        × ReducesFrom options.jobs (admits_of options problem) problem history reduced.text.items counts × (report ≡ report_text counts)
-        × AreOf options.jobs (admits_of options problem) problem history)
+        × ReducesFrom options.jobs none_kept (admits_of options problem) problem history reduced.text.items counts × (report ≡ report_text counts)
+        × AreOf options.jobs none_kept (admits_of options problem) problem history)
         (λ problem from. (from.0.0, reduced.counts, from.1, is, from.0.1)) reduces
 
     write_at : (outcome : Result (Vec ℕ) Refusal) → WriteEnds options.output read new.files (Ok reduced) outcome
@@ -218,12 +222,12 @@ module _ (options : ReduceOptions) (may_say : List ℕ → Verdict → Type 0) (
   pub stops_ran : (read : SeenFiles) → SameFiles old.files.shown read.shown → IsQuiet old.files read → (ran : Result Reduced RunFault)
       → ProblemAccepted options old.files
       (λ problem. IsHistoryWith options start history problem × ProblemEnds (admits_of options problem) problem (run_to ran) ran)
-      → JournalAfter options.jobs options.journal start history old.journal new.journal ran → (outcome : Result (Vec ℕ) Refusal)
+      → JournalAfter options.jobs options.journal start none_kept history old.journal new.journal ran → (outcome : Result (Vec ℕ) Refusal)
       → WriteEnds options.output read new.files ran outcome → ReduceSteps options may_say history old new outcome
   stops_ran read same quiet (Ok reduced) ends whole outcome writes =
       let P : Problem → Type 0 =
       λ problem. IsHistoryWith options start history problem
-      × (ReducesFrom options.jobs (admits_of options problem) problem history reduced.text.items reduced.counts
+      × (ReducesFrom options.jobs none_kept (admits_of options problem) problem history reduced.text.items reduced.counts
       × NoneFailed (run_to (Ok reduced)).before (run_to (Ok reduced)).after) in
       stops_write read reduced same quiet (all_quiet first (some P ends).1.1.1.1.gates) whole
       (but P (Comes reduced) (λ problem is. (is.0, is.1.0)) ends) outcome writes
@@ -264,30 +268,35 @@ pub steps_end : (options : ReduceOptions) (may_say : List ℕ → Verdict → Ty
     → ProblemRead (problem_in options) files (IsReadAs (admits_read options problem) problem) → stays ≡ stays_read options problem
     → AcceptsStart options (start_read problem)
     → SameFiles files.shown read.shown → IsQuiet files read
-    → IsDigestOf (start_read problem) run.start → IsSoundStarted options may_say run
+    → IsDigestOf (start_read problem) run.start → run.kept ≡ [] → IsSoundStarted options may_say run
     → ((one : Problem) → IsReadAs (stays_admit stays) problem one → IsRunOf (stays_admit stays) one run)
     → WriteEnds options.output read files' run.outcome outcome
     → ReduceSteps options may_say run.history (record { files = files; gates = gates; journal = run.before.journal })
     (record { files = files'; gates = gates'; journal = run.after.journal }) outcome
-steps_end options may_say run files files' gates gates' read problem stays outcome first jobs was these all same quiet digest sound runs writes =
+steps_end options may_say run files files' gates gates' read problem stays outcome first jobs was these all same quiet digest none sound runs writes =
     let old : Inside = record { files = files; gates = gates; journal = run.before.journal } in
     let new : Inside = record { files = files'; gates = gates'; journal = run.after.journal } in
-    let lent : Run = record run { workers = options.jobs } in
+    let lent : Run = record run { workers = options.jobs; kept = [] } in
     let guard : Admits = admits_read options problem in
     let these_run : (one : Problem) → IsReadAs guard problem one → IsRunOf guard one lent =
-    subst (λ (n : ℕ). (one : Problem) → IsReadAs guard problem one → IsRunOf guard one (record run { workers = n })) (sym jobs)
-    (subst (λ (k : Stays). (one : Problem) → IsReadAs (stays_admit k) problem one → IsRunOf (stays_admit k) one run) these runs) in
+    subst (λ (rs : List Record). (one : Problem) → IsReadAs guard problem one → IsRunOf guard one (record run { workers = options.jobs; kept = rs })) none
+    (subst (λ (n : ℕ). (one : Problem) → IsReadAs guard problem one → IsRunOf guard one (record run { workers = n })) (sym jobs)
+    (subst (λ (k : Stays). (one : Problem) → IsReadAs (stays_admit k) problem one → IsRunOf (stays_admit k) one run) these runs)) in
     let all_run : (one : Problem) → IsReadAs guard problem one → IsRunOf (admits_of options one) one lent =
     λ one is. subst (λ (k : Stays). IsRunOf (stays_admit k) one lent) (sym (stays_as options guard problem one is)) (these_run one is) in
     let Of : Problem → Type 0 = IsHistoryWith options run.start run.history in
     let Ends : Problem → Type 0 = λ one. IsDigestOf (start_text one) run.start × ProblemEnds (admits_of options one) one lent run.outcome in
     let digest_at : (one : Problem) → IsReadAs guard problem one → IsDigestOf (start_text one) run.start =
     λ one is. subst (λ (text : List ℕ). IsDigestOf text run.start) (sym (start_as guard problem one is)) digest in
-    let left : StartLeaves options.jobs options run.start run.history (logs_of run.before.gates)
+    let left : StartLeaves options.jobs options run.start none_kept run.history (logs_of run.before.gates)
     (logs_of run.after.gates) run.before.journal run.after.journal run.outcome =
-    subst (λ (n : ℕ). StartLeaves n options run.start run.history (logs_of run.before.gates) (logs_of run.after.gates) run.before.journal run.after.journal
-    run.outcome)
-    (sym jobs) sound.journal in
+    subst (λ (rs : List Record). StartLeaves options.jobs options run.start (verdict_in rs) run.history (logs_of run.before.gates) (logs_of run.after.gates)
+    run.before.journal run.after.journal run.outcome) none
+    (subst (λ (n : ℕ). StartLeaves n options run.start (verdict_in run.kept) run.history (logs_of run.before.gates) (logs_of run.after.gates)
+    run.before.journal run.after.journal run.outcome) (sym jobs) sound.journal) in
+    let records : RecordsAreSound options may_say [] run.history (logs_of run.before.gates) (logs_of run.after.gates) run.before.journal run.after.journal =
+    subst (λ (rs : List Record). RecordsAreSound options may_say rs run.history (logs_of run.before.gates) (logs_of run.after.gates) run.before.journal
+    run.after.journal) none sound.records in
     let accepted : ProblemAccepted options files Of =
     accepted_as options files guard problem Of all (λ one is. (digest_at one is, (all_run one is).history)) was in
     let ended : ProblemAccepted options files Ends =
@@ -295,10 +304,10 @@ steps_end options may_say run files files' gates gates' read problem stays outco
     let both : ProblemAccepted options files (λ one. Of one × ProblemEnds (admits_of options one) one lent run.outcome) =
     accepted_as options files guard problem (λ one. Of one × ProblemEnds (admits_of options one) one lent run.outcome) all
     (λ one is. ((digest_at one is, (all_run one is).history), (all_run one is).ends)) was in
-    ⊎_elim (λ after. stops_ran options may_say run.start run.history old new run.before.gates run.after.gates first sound.records accepted read same quiet
+    ⊎_elim (λ after. stops_ran options may_say run.start run.history old new run.before.gates run.after.gates first records accepted read same quiet
     run.outcome
     both after outcome writes)
-    (λ un. stops_unopened options may_say run.start run.history old new run.before.gates run.after.gates first sound.records accepted read same quiet
+    (λ un. stops_unopened options may_say run.start run.history old new run.before.gates run.after.gates first records accepted read same quiet
     run.outcome ended un
     outcome writes) left
 

@@ -8,7 +8,7 @@ use Rattle.script_gate_trait.specs.declared.gate.Verdict.{Verdict}
 use Rattle.script_gate_trait.specs.declared.log.Log.{Log}
 use Rattle.verdict_table.specs.declared.record.Record.{Record}
 use Rattle.verdict_table.specs.TableState.{texts_of}
-use Rattle.reduce_journal.specs.History.{History}
+use Rattle.reduce_journal.specs.History.{History, asked_records_of}
 use Rattle.run_worker.specs.RunHistory.{with_all_asked}
 use Rattle.run_gated.specs.Workers.{AreIdle, RoseAtIndex}
 use Rattle.worker_pool.specs.declared.worker.Worker.{Worker}
@@ -160,11 +160,15 @@ module _ {options : ReduceOptions} {part part' old new : List SeenGate} (are : A
       }
 
   -- the records are sound, as all gates see them
-  pub sound_among : (may_say : List ℕ → Verdict → Type 0) (records : List Record) (before after : SeenJournal)
-      → RecordsAreSound options may_say records (logs_of part) (logs_of part') before after
-      → RecordsAreSound options may_say records (logs_of old) (logs_of new) before after
-  sound_among may_say records before after sound =
-      record { distinct = sound.distinct; said = sound.said; used = used_among (texts_of records) before after sound.used }
+  pub sound_among : (may_say : List ℕ → Verdict → Type 0) (kept : List Record) (history : History) (before after : SeenJournal)
+      → RecordsAreSound options may_say kept history (logs_of part) (logs_of part') before after
+      → RecordsAreSound options may_say kept history (logs_of old) (logs_of new) before after
+  sound_among may_say kept history before after sound = record {
+    distinct = sound.distinct;
+    resumed = sound.resumed;
+    said = sound.said;
+    used = used_among (texts_of (asked_records_of history)) before after sound.used;
+  }
 
 -- ---- the first of the workers are lent
 

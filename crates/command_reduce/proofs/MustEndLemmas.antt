@@ -26,7 +26,7 @@ use Rattle.reduce_journal.specs.Report.{report_text}
 use Rattle.reduce_journal.specs.declared.counts.Counts.{Counts}
 use Rattle.command_reduce_calls.specs.Journal.{JournalSoFar}
 use Rattle.command_reduce.specs.Reduce.{ProblemAccepted, problem_in}
-use Rattle.command_reduce.specs.Reduce.{ReduceEnds, ReduceMustEnd, ReducesTo, admits_of}
+use Rattle.command_reduce.specs.Reduce.{ReduceEnds, ReduceMustEnd, ReducesTo, admits_of, none_kept}
 use Rattle.command_reduce_calls.specs.Stays.{AcceptsStart, NamesBeyond, first_beyond, first_beyond_start}
 use Rattle.command_reduce.specs.Reduce.ReduceEnds.{done, memory, unread, unwritten, unput, faulty, no_token, unparsed}
 use Rattle.command_reduce.specs.Reduce.ReduceEnds.{uninteresting, keep_missing, beyond, too_long, script, journal}
@@ -108,20 +108,21 @@ module _ (faults : InputFaultOnce) (languages : InputsAreInLanguage) (options : 
   yes_first : (text report : List ℕ) → ReducesTo options old.files start history text report → FirstIsNo records → ⊥
   yes_first text report reduces first_no =
       let P : Problem → Type 0 =
-      λ problem. IsDigestOf (start_text problem) start × (counts : Counts) × ReducesFrom options.jobs (admits_of options problem) problem history text counts
+      λ problem. IsDigestOf (start_text problem) start × (counts : Counts)
+      × ReducesFrom options.jobs none_kept (admits_of options problem) problem history text counts
       × (report ≡ report_text counts)
-      × AreOf options.jobs (admits_of options problem) problem history in
+      × AreOf options.jobs none_kept (admits_of options problem) problem history in
       let it : (problem : Problem) × (AcceptsStart options (start_text problem) × P problem) =
       any_problem (problem_in options) old.files (λ problem. AcceptsStart options (start_text problem) × P problem) reduces in
       yes_no (start_text it.0) records it.1.1.2.first first_no
 
   not_no : options.jobs ≡ 1
       → ProblemAccepted options old.files
-      (λ problem. IsDigestOf (start_text problem) start × (options.jobs ≡ 1 → IsUnfinished (admits_of options problem) problem history)) → FirstIsNo records
-      → ⊥
+      (λ problem. IsDigestOf (start_text problem) start × (options.jobs ≡ 1 → IsUnfinished none_kept (admits_of options problem) problem history))
+      → FirstIsNo records → ⊥
   not_no alone read first_no =
       let P : Problem → Type 0 = λ problem. IsDigestOf (start_text problem) start
-      × (options.jobs ≡ 1 → IsUnfinished (admits_of options problem) problem history) in
+      × (options.jobs ≡ 1 → IsUnfinished none_kept (admits_of options problem) problem history) in
       let it : (problem : Problem) × (AcceptsStart options (start_text problem) × P problem) =
       any_problem (problem_in options) old.files (λ problem. AcceptsStart options (start_text problem) × P problem) read in
       (it.1.1.1 alone).not_no first_no

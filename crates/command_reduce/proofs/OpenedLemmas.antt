@@ -3,6 +3,7 @@ use Rattle.std.proofs.Common.{◌≡◌, ◌∙◌, ⊎_elim, ℕ, List, [], Res
 use Rattle.faults.specs.Count.{Rose}
 use Rattle.edge_io.specs.Sink.{Put}
 use Rattle.script_gate_trait.specs.declared.gate.Verdict.{Verdict}
+use Rattle.verdict_table.specs.TableState.{verdict_in}
 use Rattle.run_worker.specs.RunEnds.{HasWritten}
 use Rattle.run_gated.specs.Seen.{AreQuiet, NoneFailed, SeenJournal, fault_counts_of}
 use Rattle.run_gated.specs.Run.{Run}
@@ -50,19 +51,25 @@ module _ (name : List ℕ) (run : Run) (earlier : SeenJournal) (opened : run.bef
   }
 
   journal_since : (outcome : Result Reduced RunFault) → JournalHas run outcome
-      → JournalAfter run.workers name run.start run.history earlier run.after.journal outcome
+      → JournalAfter run.workers name run.start (verdict_in run.kept) run.history earlier run.after.journal outcome
   journal_since (Ok reduced) has = whole_since has
   journal_since (Err NotInteresting) has = whole_since has
   journal_since (Err (Script worker)) has = whole_since has
   journal_since (Err Journal) has =
-      JournalBroken.broke_off (subst (λ (put : Option Put). HasPartBy run.workers run.start run.history put run.after.journal.shown) opened has.0)
+      JournalBroken.broke_off
+      (subst (λ (put : Option Put). HasPartBy run.workers run.start (verdict_in run.kept) run.history put run.after.journal.shown) opened has.0)
   journal_since (Err Memory) has =
       ⊎_elim (λ written. JournalSoFar.whole (whole_since (written, has.1)))
       (λ nothing. JournalSoFar.empty (record { no_history = nothing.0; opened = nothing.1 ∙ opened; quiet = has.1 ∙ quiet })) has.0
 
   pub sound_since : (may_say : List ℕ → Verdict → Type 0) → IsSound may_say run → IsSoundOpened name may_say whole_run
   sound_since may_say sound = record {
-    answers = record { distinct = sound.answers.distinct; said = sound.answers.said; asked = sound.answers.asked };
+    answers = record {
+      distinct = sound.answers.distinct;
+      resumed = sound.answers.resumed;
+      said = sound.answers.said;
+      asked = sound.answers.asked;
+    };
     journal = journal_since run.outcome sound.journal;
   }
 
@@ -71,7 +78,7 @@ module _ (run : Run) (fault : RunFault) (none : run.history ≡ []) (out : run.o
     (kept : run.after.journal.shown ≡ run.before.journal.shown)
     (why : OpeningFails run.before.journal.faults run.after.journal.faults fault) where
   journal_unopened : (name : List ℕ) (fault : RunFault) → OpeningFails run.before.journal.faults run.after.journal.faults fault
-      → JournalAfter {A = Reduced} run.workers name run.start run.history run.before.journal run.after.journal (Err fault)
+      → JournalAfter {A = Reduced} run.workers name run.start (verdict_in run.kept) run.history run.before.journal run.after.journal (Err fault)
   journal_unopened name Journal why = JournalBroken.unopened none kept
   journal_unopened name Memory why = JournalSoFar.untouched (record { no_history = none; same = λ i. record { shown = kept i; faults = why i } })
   journal_unopened name _ why = absurd why
@@ -79,7 +86,9 @@ module _ (run : Run) (fault : RunFault) (none : run.history ≡ []) (out : run.o
   pub unopened_sound : (name : List ℕ) (may_say : List ℕ → Verdict → Type 0) → IsSoundOpened name may_say run
   unopened_sound name may_say = record {
     answers = none_answers may_say run none same;
-    journal = subst (JournalAfter run.workers name run.start run.history run.before.journal run.after.journal) (sym out) (journal_unopened name fault why);
+    journal =
+        subst (JournalAfter run.workers name run.start (verdict_in run.kept) run.history run.before.journal run.after.journal) (sym out)
+        (journal_unopened name fault why);
   }
 
   quiet_gates : AreQuiet run.before.gates run.after.gates
@@ -93,6 +102,6 @@ module _ (run : Run) (fault : RunFault) (none : run.history ≡ []) (out : run.o
 
   pub unopened_run : (guard : Admits) (problem : Problem) → IsRunOf guard problem run
   unopened_run guard problem = record {
-    history = none_of run.workers guard problem run.history none;
+    history = none_of run.workers (verdict_in run.kept) guard problem run.history none;
     ends = subst (ProblemEnds guard problem run) (sym out) (fails_unopened guard problem fault why);
   }

@@ -20,7 +20,7 @@ use Rattle.run_problem.specs.Problem.{start_text}
 use Rattle.run_problem.specs.Ends.{IsRefused}
 use Rattle.command_reduce_calls.specs.Journal.{JournalBroken, JournalSoFar, JournalWhole}
 use Rattle.command_reduce_calls.specs.Stays.{AcceptsStart, NamesBeyond}
-use Rattle.command_reduce.specs.Reduce.{IsReduced, ReduceEnds, ReducesTo, ScriptLeaves, admits_of, problem_in}
+use Rattle.command_reduce.specs.Reduce.{IsReduced, ReduceEnds, ReducesTo, ScriptLeaves, admits_of, none_kept, problem_in}
 use Rattle.command_reduce.specs.Reduce.ReduceEnds.{done, memory, unread, unwritten, unput, faulty, no_token, unparsed}
 use Rattle.command_reduce.specs.Reduce.ReduceEnds.{uninteresting, keep_missing, beyond, too_long, script, journal}
 use Rattle.command_reduce.specs.ReduceByStatus.{PutsItsLine, ReduceByStatus}
@@ -81,11 +81,11 @@ module _ (options : ReduceOptions) (start : Digest) (history : History) (old new
   is_uninteresting : {status : ℕ} → Ends status → status ≡ 8 → OnlyNo (records_of history)
   is_uninteresting (uninteresting read files gates_quiet kept put) is =
       (any_problem (problem_in options) old.files (λ problem. AcceptsStart options (start_text problem)
-      × (IsDigestOf (start_text problem) start × IsRefused options.jobs (admits_of options problem) problem history)) read).1.1.1.only
+      × (IsDigestOf (start_text problem) start × IsRefused options.jobs none_kept (admits_of options problem) problem history)) read).1.1.1.only
   is_uninteresting _ is = absurd (cc is)
 
   is_journal : {status : ℕ} → Ends status → status ≡ 12 → CallFailed old.journal new.journal
-      × JournalBroken options.jobs options.journal start history old.journal new.journal
+      × JournalBroken options.jobs options.journal start none_kept history old.journal new.journal
   is_journal (journal failed read broken gates_quiet files put) is = (failed, broken)
   is_journal _ is = absurd (cc is)
 

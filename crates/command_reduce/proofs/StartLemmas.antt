@@ -2,6 +2,7 @@
 use Rattle.std.proofs.Common.{◌≡◌, ◌∙◌, ℕ, List, [], Result, Ok, Err, sym, subst}
 use Rattle.script_gate_trait.specs.declared.gate.GateFault.{GateFault}
 use Rattle.script_gate_trait.specs.declared.gate.GateFault.TheVariants.{Failed as GateFailed, Memory as GateMemory}
+use Rattle.verdict_table.specs.TableState.{verdict_in}
 use Rattle.run_gated.specs.Faults.{fault_of}
 use Rattle.run_gated.specs.Run.{Run}
 use Rattle.run_gated.specs.Seen.{AreQuiet, IsQuiet, NoneFailed, SeenGate, fault_counts_of}
@@ -19,13 +20,14 @@ module _ (guard : Admits) (problem : Problem) (run : Run) (none : run.history �
   -- why a gate wasn't opened is why there is no reduction
   run_open : (worker : ℕ) (fault : GateFault) → OpenFailed fault worker run.before.gates run.after.gates → RunFails guard problem run (fault_of worker fault)
   run_open worker GateMemory why = (quiet, λ _. why)
-  run_open worker GateFailed why = (why, quiet, λ _. subst (IsUnfinished guard problem) (sym none) (unfinished_without guard problem))
+  run_open worker GateFailed why =
+      (why, quiet, λ _. subst (IsUnfinished (verdict_in run.kept) guard problem) (sym none) (unfinished_without (verdict_in run.kept) guard problem))
 
   -- and that is what is answered
   pub unopened_of : (worker : ℕ) (fault : GateFault) → run.outcome ≡ Err (fault_of worker fault) → OpenFailed fault worker run.before.gates run.after.gates
       → IsRunOf guard problem run
   unopened_of worker fault is why = record {
-    history = none_of run.workers guard problem run.history none;
+    history = none_of run.workers (verdict_in run.kept) guard problem run.history none;
     ends = subst (ProblemEnds guard problem run) (sym is) (run_open worker fault why);
   }
 

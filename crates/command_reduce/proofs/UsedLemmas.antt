@@ -7,7 +7,7 @@ use Rattle.script_gate_trait.specs.declared.gate.Verdict.{Verdict}
 use Rattle.script_gate_trait.specs.declared.log.Log.{Log}
 use Rattle.verdict_table.specs.declared.record.Record.{Record}
 use Rattle.verdict_table.specs.TableState.{texts_of}
-use Rattle.reduce_journal.specs.History.{records_of}
+use Rattle.reduce_journal.specs.History.{History, asked_records_of}
 use Rattle.run_gated.specs.Run.{Run}
 use Rattle.run_gated.specs.Records.{AreAnswers, AreAsked, all_asked}
 use Rattle.run_worker.specs.RunHistory.{with_all_asked}
@@ -39,26 +39,29 @@ were_asked options texts old opened new jobs is_open are = record {
 }
 
 module _ (options : ReduceOptions) (may_say : List ℕ → Verdict → Type 0) where
-  without_records : (records : List Record) (logs logs' : List (Option Log)) (before after : SeenJournal) → records ≡ []
-      → GatesWereUsed options [] logs logs' before after → RecordsAreSound options may_say records logs logs' before after
+  without_records : (kept : List Record) (history : History) (logs logs' : List (Option Log)) (before after : SeenJournal) → history ≡ []
+      → GatesWereUsed options [] logs logs' before after → RecordsAreSound options may_say kept history logs logs' before after
   unfolding IsDistinct
-  without_records records logs logs' before after none used = subst (λ rs. RecordsAreSound options may_say rs logs logs' before after) (sym none) (record {
-    distinct = tt;
-    said = All-nil _;
-    used = used;
-  })
+  without_records kept history logs logs' before after none used =
+      subst (λ (h : History). RecordsAreSound options may_say kept h logs logs' before after) (sym none) (record {
+        distinct = tt;
+        resumed = tt;
+        said = All-nil _;
+        used = used;
+      })
 
   -- no record was made, and the gates and the journal show what they did
-  pub none_sound : (records : List Record) (logs logs' : List (Option Log)) (before after : SeenJournal) → records ≡ [] → logs' ≡ logs → after ≡ before
-      → RecordsAreSound options may_say records logs logs' before after
-  none_sound records logs logs' before after none same same_journal = without_records records logs logs' before after none (inl (refl, same, same_journal))
+  pub none_sound : (kept : List Record) (history : History) (logs logs' : List (Option Log)) (before after : SeenJournal) → history ≡ [] → logs' ≡ logs
+      → after ≡ before → RecordsAreSound options may_say kept history logs logs' before after
+  none_sound kept history logs logs' before after none same same_journal =
+      without_records kept history logs logs' before after none (inl (refl, same, same_journal))
 
   -- some gate wasn't opened
   pub refused_sound : (run : Run) (refused : OpeningFault) → run.history ≡ [] → length run.before.gates ≡ options.jobs
       → GateRefused options run.before.gates run.after.gates refused → run.after.journal ≡ run.before.journal
-      → RecordsAreSound options may_say (records_of run.history) (logs_of run.before.gates) (logs_of run.after.gates) run.before.journal run.after.journal
+      → RecordsAreSound options may_say run.kept run.history (logs_of run.before.gates) (logs_of run.after.gates) run.before.journal run.after.journal
   refused_sound run refused none jobs why same_journal =
-      without_records (records_of run.history) (logs_of run.before.gates) (logs_of run.after.gates) run.before.journal run.after.journal (ap records_of none)
+      without_records run.kept run.history (logs_of run.before.gates) (logs_of run.after.gates) run.before.journal run.after.journal none
       (at why.opened why.at why.before)
     where
       at : (opened : ℕ) → refused.worker ≡ suc opened → logs_of run.after.gates ≡ opened_from options 1 opened (logs_of run.before.gates)
@@ -75,10 +78,11 @@ module _ (options : ReduceOptions) (may_say : List ℕ → Verdict → Type 0) w
   -- the gates that showed these logs were opened, and then asked for the records' texts
   pub asked_sound : (run : Run) (logs : List (Option Log)) → length run.before.gates ≡ options.jobs
       → logs_of run.before.gates ≡ opened_from options 1 options.jobs logs → AreAnswers may_say run
-      → RecordsAreSound options may_say (records_of run.history) logs (logs_of run.after.gates) run.before.journal run.after.journal
+      → RecordsAreSound options may_say run.kept run.history logs (logs_of run.after.gates) run.before.journal run.after.journal
   asked_sound run logs jobs is_open answers = record {
     distinct = answers.distinct;
+    resumed = answers.resumed;
     said = answers.said;
-    used = inr (inr (were_asked options (texts_of (records_of run.history)) logs (logs_of run.before.gates) (logs_of run.after.gates)
+    used = inr (inr (were_asked options (texts_of (asked_records_of run.history)) logs (logs_of run.before.gates) (logs_of run.after.gates)
         (length-map run.before.gates (λ (gate : SeenGate). gate.shown) ∙ jobs) is_open answers.asked));
   }

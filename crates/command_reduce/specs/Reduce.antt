@@ -7,14 +7,16 @@ use Rattle.script_gate_trait.specs.declared.gate.Verdict.{Verdict}
 use Rattle.script_gate_trait.specs.declared.log.Log.{Log}
 use Rattle.edge_io.specs.Files.{Holds, IsLonger, SameFiles, SameOthers}
 use Rattle.verdict_table.specs.declared.record.Record.{Record}
-use Rattle.reduce_journal.specs.History.{History, records_of}
+use Rattle.reduce_journal.specs.History.{History, asked_records_of, records_of}
 use Rattle.reduce_journal.specs.Journal.{IsDigestOf}
 use Rattle.reduce_journal.specs.declared.digest.Digest.{Digest}
 use Rattle.reduce_journal.specs.Report.{report_text}
 use Rattle.reduce_journal.specs.declared.counts.Counts.{Counts}
 use Rattle.command_reduce_calls.specs.Journal.{JournalBroken, JournalSoFar, JournalUntouched, JournalWhole}
 use Rattle.command_reduce_calls.specs.Stays.{AcceptsStart, NamesBeyond, first_beyond_start, tokens_stay, wishes_of}
-use Rattle.verdict_table.specs.TableState.{texts_of}
+use Rattle.verdict_table.specs.TableState.{texts_of, verdict_in}
+use Rattle.ordered_commit_moves.specs.Moves.{KeptVerdicts}
+use Rattle.ordered_commit_moves.specs.Replay.{AllGoWith}
 use Rattle.keep_guard.specs.Keep.{first_missing, holds_all}
 use Rattle.reduce_core.specs.Reduction.{Admits}
 use Rattle.line_guard.specs.MustStay.{Stays, stays_admit}
@@ -63,12 +65,16 @@ stays_of options problem = record { texts = options.keeps; numbers = numbers_sta
 abbrev pub admits_of : ReduceOptions → Problem → Admits
 admits_of options problem = stays_admit (stays_of options problem)
 
+-- no verdict is kept from an earlier run
+abbrev pub none_kept : KeptVerdicts
+none_kept = verdict_in []
+
 -- the problem, of whose start this is the digest and whose history this is, reduces to the text, and this is its report
 abbrev pub ReducesTo : ReduceOptions → SeenFiles → Digest → History → List ℕ → List ℕ → Type 0
 ReducesTo options files start history text report = ProblemAccepted options files (λ problem.
     IsDigestOf (start_text problem) start
-    × (counts : Counts) × ReducesFrom options.jobs (admits_of options problem) problem history text counts × (report ≡ report_text counts)
-    × AreOf options.jobs (admits_of options problem) problem history)
+    × (counts : Counts) × ReducesFrom options.jobs none_kept (admits_of options problem) problem history text counts × (report ≡ report_text counts)
+    × AreOf options.jobs none_kept (admits_of options problem) problem history)
 
 -- the output file holds what the input reduces to, of which this is the report
 pub record IsReduced (options : ReduceOptions) (files files' : SeenFiles) (start : Digest) (history : History) (report : List ℕ) : Type 0 where
@@ -78,7 +84,7 @@ pub record IsReduced (options : ReduceOptions) (files files' : SeenFiles) (start
 
 -- this is the digest of the problem's start, and the history is one of it
 abbrev pub IsHistoryWith : ReduceOptions → Digest → History → Problem → Type 0
-IsHistoryWith options start history problem = IsDigestOf (start_text problem) start × AreOf options.jobs (admits_of options problem) problem history
+IsHistoryWith options start history problem = IsDigestOf (start_text problem) start × AreOf options.jobs none_kept (admits_of options problem) problem history
 
 -- neither a gate nor the journal was reached, and this is the digest of no bytes; or the input was read, it was accepted, and the history is one of it
 abbrev pub IsHistoryOfInput : ReduceOptions → Digest → History → World → World → Type 0
@@ -196,7 +202,7 @@ pub data ReduceEnds (options : ReduceOptions) (start : Digest) (history : Histor
       → ReduceEnds options start history old new 7
   -- the input was read, and a gate said no to it
   uninteresting : (read : ProblemAccepted options old.files (λ problem.
-      IsDigestOf (start_text problem) start × IsRefused options.jobs (admits_of options problem) problem history))
+      IsDigestOf (start_text problem) start × IsRefused options.jobs none_kept (admits_of options problem) problem history))
       → (files : FilesKept old.files new.files)
       → (gates_quiet : AreQuiet old.gates new.gates)
       → (journal : JournalWhole options.journal start history old.journal new.journal)
@@ -221,7 +227,7 @@ pub data ReduceEnds (options : ReduceOptions) (start : Digest) (history : Histor
   -- with one worker the gate hadn't said no to the input, its reduction wasn't finished, and the history is all that one thread does over its records
   script : (worker : ℕ) (one_of : worker ≤ options.jobs) (failed : GateFailed worker old.gates new.gates)
       → (read : ProblemAccepted options old.files (λ problem.
-      IsDigestOf (start_text problem) start × (options.jobs ≡ 1 → IsUnfinished (admits_of options problem) problem history)))
+      IsDigestOf (start_text problem) start × (options.jobs ≡ 1 → IsUnfinished none_kept (admits_of options problem) problem history)))
       → (files : FilesKept old.files new.files)
       → (journal : ScriptLeaves options start history worker old new)
       → (line : PutsMessage (script_text worker) old.out new.out)
@@ -229,7 +235,7 @@ pub data ReduceEnds (options : ReduceOptions) (start : Digest) (history : Histor
   -- the input was read, and a call of the journal failed: it wasn't opened, or it broke off
   journal : (failed : CallFailed old.journal new.journal)
       → (read : ProblemAccepted options old.files (IsHistoryWith options start history))
-      → (broken : JournalBroken options.jobs options.journal start history old.journal new.journal)
+      → (broken : JournalBroken options.jobs options.journal start none_kept history old.journal new.journal)
       → (gates_quiet : options.jobs ≡ 1 → AreQuiet old.gates new.gates)
       → (files : FilesKept old.files new.files)
       → (line : PutsMessage (codes "journal fault") old.out new.out)
@@ -296,14 +302,15 @@ pub record ReduceMustEnd (options : ReduceOptions) (records : List Record) (old 
   -- where the put failed, it was that of the report (4) or of another status's line
   pub out_failed : ¬ IsQuiet old.out new.out → status ≢ 0
 
--- What holds of the records at every status, as the gates show them: no text is there twice, each verdict is a gate's,
--- and the gates of the workers were opened for this input and script and asked as often as there are records, unless one wasn't opened, and then the journal
--- wasn't either.
-pub record RecordsAreSound (options : ReduceOptions) (may_say : List ℕ → Verdict → Type 0) (records : List Record) (old new : List (Option Log))
-    (before after : SeenJournal) : Type 0 where
-  pub distinct : IsDistinct bytes_eq (texts_of records)
-  pub said : All (λ r. may_say r.text r.verdict) records
-  pub used : GatesWereUsed options (texts_of records) old new before after
+-- What holds of the records at every status, as the gates show them: no text is there twice; a record is kept exactly where its text has a kept verdict, and
+-- then it has that one; each other verdict is a gate's, and the gates of the workers were opened for this input and script and asked as often as there are
+-- such records, unless one wasn't opened, and then the journal wasn't either.
+pub record RecordsAreSound (options : ReduceOptions) (may_say : List ℕ → Verdict → Type 0) (kept : List Record) (history : History)
+    (old new : List (Option Log)) (before after : SeenJournal) : Type 0 where
+  pub distinct : IsDistinct bytes_eq (texts_of (records_of history))
+  pub resumed : AllGoWith (verdict_in kept) history
+  pub said : All (λ r. may_say r.text r.verdict) (asked_records_of history)
+  pub used : GatesWereUsed options (texts_of (asked_records_of history)) old new before after
 
 -- A run of `reduce` with these options. Some history has come of it: that of the journal's bytes, where it shows them and is whole. The gates beyond those of
 -- the workers are as before.
@@ -312,6 +319,6 @@ pub record Reduces (options : ReduceOptions) (may_say : List ℕ → Verdict →
   pub start : Digest
   pub ends : ReduceEnds options start history old new status
   pub must_end : ReduceMustEnd options (records_of history) old new status
-  pub sound : RecordsAreSound options may_say (records_of history) (logs_of old.gates) (logs_of new.gates) old.journal new.journal
+  pub sound : RecordsAreSound options may_say [] history (logs_of old.gates) (logs_of new.gates) old.journal new.journal
   pub of_input : IsHistoryOfInput options start history old new
   pub others : drop options.jobs new.gates ≡ drop options.jobs old.gates

@@ -15,7 +15,7 @@ use Rattle.command_ends.specs.declared.status.NamedFile.{NamedFile}
 use Rattle.command_grammar.specs.Grammar.{IsFaultIn}
 use Rattle.command_grammar.specs.Texts.{GrammarWasRead}
 use Rattle.run_problem.specs.Problem.{start_text}
-use Rattle.command_reduce.specs.Reduce.{IsReduced, ReduceEnds, ReducesTo, ScriptLeaves, problem_in}
+use Rattle.command_reduce.specs.Reduce.{IsReduced, ReduceEnds, ReducesTo, ScriptLeaves, none_kept, problem_in}
 use Rattle.command_ends.specs.Status.{IsOneOf, IsUncut, PutsRefusal, beyond_text, fault_line, keep_text, script_text}
 use Rattle.command_words.specs.Commands.{GrammarOptions, ModeOptions, ReduceOptions}
 use Rattle.command_ends.specs.World.{CallFailed, GateFailed, NotReached, Puts, PutsLine, PutsMessage, PutsPrefix, SeenFiles, SeenOut, World}
@@ -53,7 +53,7 @@ pub record ReduceMeans (options : ReduceOptions) (start : Digest) (history : His
   pub script : status ≡ 11
       → (worker : ℕ) × (worker ≤ options.jobs) × GateFailed worker old.gates new.gates × ScriptLeaves options start history worker old new
       × PutsMessage (script_text worker) old.out new.out
-  pub journal : status ≡ 12 → CallFailed old.journal new.journal × JournalBroken options.jobs options.journal start history old.journal new.journal
+  pub journal : status ≡ 12 → CallFailed old.journal new.journal × JournalBroken options.jobs options.journal start none_kept history old.journal new.journal
   pub beyond : status ≡ 16
       → (last : ℕ) × (lines : ℕ) × ProblemRead (problem_in options) old.files (λ problem. NamesBeyond options last lines (start_text problem))
       × PutsMessage (beyond_text last lines) old.out new.out

@@ -26,9 +26,9 @@ use command_words::ReduceLine;
 use edge_io::{Files, Sink};
 use keep_guard::Guard;
 use line_guard::{MustStay, all_keep_protected};
-use reduce_journal::{Digest, Event, digest_of};
+use reduce_journal::Event;
 use reduce_trees_input::{input_fault_once, inputs_are_in_language};
-use run_gated::Ran;
+use run_gated::{Known, Ran};
 use run_problem::{ReadProblem, run_problem};
 use script_gate_trait::Gate;
 use std::alloc::Global;
@@ -46,7 +46,7 @@ fn run_opened<G: Gate + Send, J: Sink + Drop + Send, W: Threads + Wait + Sync>(
     guard: Guard<MustStay<'_>>,
     workers: &mut [Worker<G>],
     journal: J,
-    digest: Digest,
+    known: Known,
 ) -> Ran<J>
     requires ready { IsReady problem }
     requires kept { stays_admit guard (numbers_read problem) (start_read problem) ≡ true }
@@ -54,13 +54,13 @@ fn run_opened<G: Gate + Send, J: Sink + Drop + Send, W: Threads + Wait + Sync>(
     ensures idle { AreIdle workers.new }
     ensures as_many { length workers.new ≡ length workers.old }
     ensures sound { IsSoundOpened ((reduce_read line.now).journal) G.may_say
-        (run_of G.log G.faults J.put_so_far J.faults workers.old workers.new journal digest result) }
+        (run_of G.log G.faults J.put_so_far J.faults workers.old workers.new journal known result) }
     ensures problem { (one : Problem) → IsReadAs (stays_admit guard.entry) problem one
-        → IsRunOf (stays_admit guard.entry) one (run_of G.log G.faults J.put_so_far J.faults workers.old workers.new journal digest result) }
+        → IsRunOf (stays_admit guard.entry) one (run_of G.log G.faults J.put_so_far J.faults workers.old workers.new journal known result) }
 {
     let mut journal = journal;
     match open_journal(alloc, &mut journal, line) {
-        Ok(()) => run_problem(rt, alloc, problem, guard, workers, journal, digest),
+        Ok(()) => run_problem(rt, alloc, problem, guard, workers, journal, known),
         Err(fault) => Ran::refused(alloc, journal, fault),
     }
 }
@@ -75,7 +75,7 @@ fn reduce_start<G: Gate + Send, J: Sink + Drop + Send, W: Threads + Wait + Sync>
     guard: Guard<MustStay<'_>>,
     workers: &mut [Worker<G>],
     journal: J,
-    digest: Digest,
+    known: Known,
 ) -> Ran<J>
     requires ready { IsReady problem }
     requires kept { stays_admit guard (numbers_read problem) (start_read problem) ≡ true }
@@ -84,12 +84,12 @@ fn reduce_start<G: Gate + Send, J: Sink + Drop + Send, W: Threads + Wait + Sync>
     ensures idle { AreIdle workers.new }
     ensures as_many { length workers.new ≡ length workers.old }
     ensures sound { IsSoundStarted (reduce_read line.now) G.may_say
-        (run_of G.log G.faults J.put_so_far J.faults workers.old workers.new journal digest result) }
+        (run_of G.log G.faults J.put_so_far J.faults workers.old workers.new journal known result) }
     ensures problem { (one : Problem) → IsReadAs (stays_admit guard.entry) problem one → IsRunOf (stays_admit guard.entry) one
-        (run_of G.log G.faults J.put_so_far J.faults workers.old workers.new journal digest result) }
+        (run_of G.log G.faults J.put_so_far J.faults workers.old workers.new journal known result) }
 {
     match open_gates(workers, line) {
-        Ok(()) => run_opened(rt, alloc, line, problem, guard, workers, journal, digest),
+        Ok(()) => run_opened(rt, alloc, line, problem, guard, workers, journal, known),
         Err(fault) => without_gate(alloc, journal, fault),
     }
 }
@@ -177,7 +177,7 @@ fn reduce_steps<F: Files, G: Gate + Send, J: Sink + Drop + Send, W: Threads + Wa
             outcome: Err(refusal),
         },
         Ok((problem, guard)) => {
-            let digest = digest_of(problem.start());
+            let known = Known::of_start(alloc, problem.start());
             let Ran {
                 journal,
                 events,
@@ -190,7 +190,7 @@ fn reduce_steps<F: Files, G: Gate + Send, J: Sink + Drop + Send, W: Threads + Wa
                 guard,
                 &mut workers[..line.jobs as usize],
                 journal,
-                digest,
+                known,
             );
             let outcome = write_result(alloc, line, files, outcome);
             Steps {

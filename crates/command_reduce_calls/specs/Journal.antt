@@ -3,6 +3,7 @@ use Rattle.std.specs.Prelude.{◌≡◌, ℕ, List, [], Option, option_map}
 use Rattle.edge_io.specs.Sink.{Put, empty_put}
 use Rattle.reduce_journal.specs.declared.digest.Digest.{Digest}
 use Rattle.reduce_journal.specs.History.{History}
+use Rattle.ordered_commit_moves.specs.Moves.{KeptVerdicts}
 use Rattle.run_gated.specs.Workers.{HasPartBy}
 use Rattle.run_worker.specs.RunEnds.{HasWritten}
 use Rattle.command_ends.specs.World.{IsQuiet, SeenJournal}
@@ -33,8 +34,8 @@ pub data JournalSoFar (name : List ℕ) (start : Digest) (history : History) (ol
   untouched : JournalUntouched history old new → JournalSoFar name start history old new
   empty : JournalEmpty name history old new → JournalSoFar name start history old new
 
--- It wasn't opened, and shows what it did; or it was, and broke off: in its head, or in an event. With one worker that is the last record of the history,
--- or a commit after all of it.
-pub data JournalBroken (workers : ℕ) (name : List ℕ) (start : Digest) (history : History) (old new : SeenJournal) : Type 0 where
-  unopened : history ≡ [] → new.shown ≡ old.shown → JournalBroken workers name start history old new
-  broke_off : HasPartBy workers start history (opened_as name old.shown) new.shown → JournalBroken workers name start history old new
+-- It wasn't opened, and shows what it did; or it was, and broke off: in its head, or in an event.
+-- With one worker that is the last record of the history, or a commit or a kept record that would come next.
+pub data JournalBroken (workers : ℕ) (name : List ℕ) (start : Digest) (kept : KeptVerdicts) (history : History) (old new : SeenJournal) : Type 0 where
+  unopened : history ≡ [] → new.shown ≡ old.shown → JournalBroken workers name start kept history old new
+  broke_off : HasPartBy workers start kept history (opened_as name old.shown) new.shown → JournalBroken workers name start kept history old new

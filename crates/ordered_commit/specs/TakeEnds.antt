@@ -18,7 +18,7 @@ use Rattle.ordered_commit.specs.BoardState.{BoardState, Holds, Makes, core_of}
 abbrev pub with_claimed : ClaimedText → TableState → TableState
 with_claimed claim table = record table { claims = table.claims ++ record { number = claim.claim; text = claim.text } ∷ [] }
 
--- every text that is ahead of the front is recorded or claimed, and that of the front itself is another worker's claim
+-- every text that is ahead of the front is recorded, claimed, or has a kept verdict; that of the front itself is another worker's claim
 pub record IsWaiting {S J : Type 0} (plan : S → Plan) (worker : ℕ) (state : BoardState S J) : Type 0 where
   pub unstopped : state.fault ≡ None
   pub asking : IsSome (asked (plan state.front))

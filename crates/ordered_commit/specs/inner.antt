@@ -1,3 +1,4 @@
 pub mod Numbers
 pub mod CommitEnds
+pub mod RecallEnds
 pub mod Claiming

@@ -20,11 +20,12 @@ use reduce_step::Step;
 use script_gate_trait::Gate;
 use std::alloc::Global;
 use std::marker::{Model, PhantomData};
+use verdict_table::Kept;
 
 /// What the workers of one run share: the front, which is the reducer that is committed to; the records
-/// and open claims; the history, and the journal that it is written to; and the fault that is kept, if
-/// any. Contracts see these, a seat for each worker, and the digest of the start. `G` is the type of the
-/// workers' gates.
+/// and open claims; the history, and the journal that it is written to; the verdicts that are kept from an
+/// earlier run; and the fault that is kept, if any. Contracts see these, a seat for each worker, and the
+/// digest of the start. `G` is the type of the workers' gates.
 #[derive(Drop)]
 pub struct Board<S: Step + Drop, G: Gate, J: Sink + Drop> {
     pub(crate) front: S,
@@ -34,6 +35,7 @@ pub struct Board<S: Step + Drop, G: Gate, J: Sink + Drop> {
     pub(crate) fault: Option<PoolFault>,
     pub(crate) seats: Vec<Seat>,
     start: Digest,
+    pub(crate) kept: Kept,
     gate: PhantomData<G>,
 }
 
@@ -53,6 +55,7 @@ impl<S: Step + Drop, G: Gate, J: Sink + Drop> Model for Board<S, G, J> {
       fault = board.fault;
       seats = board.seats.items;
       start = board.start;
+      kept = board.kept;
     } };
 
     ghost invariant = { λ board. record {
@@ -64,6 +67,7 @@ impl<S: Step + Drop, G: Gate, J: Sink + Drop> Model for Board<S, G, J> {
         fault = board.fault;
         seats = board.seats.items;
         start = board.start;
+        kept = board.kept;
       });
       event_capacity : length board.events.items + length (claims_held board.seats.items) ≤ vec_capacity board.events;
     } };
@@ -91,19 +95,20 @@ fn begin<J: Sink>(
 
 impl<S: Step + Drop, G: Gate, J: Sink + Drop> Board<S, G, J> {
     /// A board of so many workers over a new reducer of the start that has this digest, and an empty
-    /// journal, which gets its head; and a seat for each worker, in order. Where there is no board, the front
-    /// and the journal are handed back.
+    /// journal, which gets its head; and a seat for each worker, in order. The texts that have a kept verdict
+    /// aren't asked about. Where there is no board, the front and the journal are handed back.
     pub fn new(
         alloc: Global,
         front: S,
         journal: J,
         workers: u32,
         start: Digest,
+        kept: Kept,
     ) -> Result<(Board<S, G, J>, Vec<Seat>), Refused<S, J>>
         requires workers { (1 ≤ workers) × (workers ≤ 16) }
         requires first { S.first front ≡ S.plan front }
         requires empty { IfSome (J.put_so_far journal) (λ put. put.bytes ≡ []) }
-        ensures board { IfOk result (λ made. made.0 ≡ new_board workers start front made.0.journal) }
+        ensures board { IfOk result (λ made. made.0 ≡ new_board workers start kept front made.0.journal) }
         ensures seats { IfOk result (λ made. made.1.items ≡ new_seats workers) }
         ensures free { IfOk result (λ made. AreFreeSeats made.0.seats made.1.items) }
         ensures head { IfOk result (λ made. HasHead J.put_so_far start journal made.0.journal) }
@@ -130,6 +135,7 @@ impl<S: Step + Drop, G: Gate, J: Sink + Drop> Board<S, G, J> {
                     fault: None,
                     seats: own,
                     start,
+                    kept,
                     gate: PhantomData,
                 };
                 Ok((board, lent))
@@ -184,6 +190,7 @@ impl<S: Step + Drop, G: Gate, J: Sink + Drop> Board<S, G, J> {
             fault,
             seats: _,
             start: _,
+            kept: _,
             gate: _,
         } = self;
         Outcome {

@@ -89,6 +89,17 @@ impl ClaimTable {
         Ok(number)
     }
 
+    /// Ends an open claim without a verdict. It takes no memory.
+    pub(crate) fn withdraw(&mut self, claim: u64)
+        requires is_open { IsSome (text_claimed claim self.old.claims) }
+        requires last { claim + 1 ≡ claim_count self.old }
+        requires sound { IsSound self.old }
+        ensures { self.new ≡ record self.old { claims = other_claims claim self.old.claims } }
+    {
+        let _ = take_copy(&mut self.copies, claim);
+        self.table.withdraw(claim);
+    }
+
     /// Records the verdict on an open claim's text, and gives the record's number and the copy of the
     /// text. It takes no memory.
     pub(crate) fn fill(&mut self, claim: u64, verdict: Verdict) -> (u64, Bytes)

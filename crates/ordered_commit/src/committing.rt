@@ -68,6 +68,7 @@ impl<S: Step + Drop, G: Gate, J: Sink + Drop> Board<S, G, J> {
         ensures table { self.new.table ≡ self.old.table }
         ensures seats { self.new.seats ≡ self.old.seats }
         ensures start { self.new.start ≡ self.old.start }
+        ensures kept { self.new.kept ≡ self.old.kept }
         ensures first { S.first self.new.front ≡ S.first self.old.front }
         ensures name { HasSameName J.put_so_far self.old.journal self.new.journal }
         ensures failed { IsErrOf result BoardFault.Journal → Rose (J.faults self.old.journal) (J.faults self.new.journal) }

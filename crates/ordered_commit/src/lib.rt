@@ -2,14 +2,14 @@
 //! one reducer that is committed to.
 //!
 //! Read `specs/BoardState.antt` first, then `specs/Kept.antt`: what holds of every board. Enter by
-//! [`Board::new`], which gives a [`Seat`] for each worker. A worker commits while it can and takes,
-//! asks, and records or gives up; each call is a move of `ordered_commit_moves` or none
-//! (`specs/CommitEnds.antt`, `specs/TakeEnds.antt`, `specs/RecordEnds.antt`). A claimed text is pushed
-//! into the vector that all workers read; only that push may wait, for another push. So a worker goes
-//! on:
+//! [`Board::new`], which gives a [`Seat`] for each worker. A worker recalls and commits while it can, and
+//! takes, asks, and records or gives up; each call is a move of `ordered_commit_moves` or none
+//! (`specs/RecallEnds.antt`, `specs/CommitEnds.antt`, `specs/TakeEnds.antt`, `specs/RecordEnds.antt`). A
+//! claimed text is pushed into the vector that all workers read; only that push may wait, for another
+//! push. So a worker goes on:
 //!
 //! ```
-//! while board.commit()? {}
+//! while board.recall()? || board.commit()? {}
 //! if let Take::Work(permit) = board.take(rt, &texts, &mut seat)? {
 //!     match ask_once(&mut gate, &texts, permit) {
 //!         Ok(answer) => { board.record(&mut seat, answer)?; }
@@ -25,6 +25,7 @@ mod claiming;
 mod committing;
 mod fault;
 mod outcome;
+mod recalling;
 mod recording;
 mod seat;
 mod take;

@@ -62,7 +62,11 @@ impl<S: Step + Drop, G: Gate, J: Sink + Drop> Board<S, G, J> {
         *seat = with_record(*seat);
         put_seat(&mut self.seats, *seat);
         answer.spend();
-        let event = Event::Recorded { text, verdict };
+        let event = Event::Recorded {
+            text,
+            verdict,
+            kept: false,
+        };
         let written = write_unless_broken(&mut self.journal, self.fault, &event);
         self.events.push(event).unwrap();
         match written {

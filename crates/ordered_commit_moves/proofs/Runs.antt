@@ -1,6 +1,7 @@
 -- Moves of several workers: what each of them keeps.
-use Rattle.std.proofs.Common.{◌≡◌, ◌*◌, ◌++◌, ℕ, zero, suc, List, [], ◌∷◌, All, Bool, true, false, cond, not, ◌==◌, Option, Some, None, IsSome}
-use Rattle.std.proofs.Common.{option_map, find, map, nat_eq, eqb-true, refl, sym, ap, ◌∙◌, subst, append_assoc, append-nil}
+use Rattle.std.proofs.Common.{◌≡◌, ◌*◌, ◌++◌, ◌||◌, inl, inr, ℕ, zero, suc, List, [], ◌∷◌, All, Bool, true, false, cond, not, ◌==◌, Option, Some, None, IsSome}
+use Rattle.std.proofs.Common.{is_some, option_map, find, map, nat_eq, eqb-true, refl, sym, ap, ◌∙◌, subst, append_assoc, append-nil}
+use Rattle.std.proofs.lemmas.Bool.{cases_Bool, or_parts}
 use Rattle.std.proofs.lemmas.Cmp.{nat_eq_equiv, nat_list_eq_equiv}
 use Rattle.std.proofs.lemmas.Slice.Eq.{bytes_eq-Decides}
 use Rattle.std.proofs.lemmas.List.{map-append}
@@ -14,61 +15,102 @@ use Rattle.std.specs.List.Sorted.{IsPermutation}
 use Rattle.std.specs.Str.{bytes_eq}
 use Rattle.script_gate_trait.specs.declared.gate.Verdict.{Verdict}
 use Rattle.verdict_table.specs.declared.record.Record.{Record}
-use Rattle.reduce_step.specs.Plan.{MayAsk, Plan, after, asked, follow}
+use Rattle.reduce_step.specs.Plan.{Ask, End, MayAsk, Plan, after, asked, follow}
 use Rattle.reduce_step.specs.Ahead.{ahead}
 use Rattle.verdict_table.specs.TableState.{Extends, texts_of, verdict_in}
 use Rattle.reduce_step.proofs.Lent.{ahead_may, after_may, follow_after, follow_ended, stays}
 use Rattle.verdict_table.proofs.Lent.{extends_front, extends_itself, distinct_front}
+use Rattle.reduce_journal.specs.declared.event.Event.{Event}
 use Rattle.reduce_journal.specs.declared.event.Event.TheVariants.{Recorded, Committed}
-use Rattle.reduce_journal.specs.History.{History, records_of}
-use Rattle.ordered_commit_moves.specs.Replay.{CommitsWhatIsAsked, answered, record_at, replay, replay_from}
-use Rattle.ordered_commit_moves.specs.Moves.{AreMoves, Claims, Commits, CoreState, MayMake, Move, OpenClaim, Records, after_move}
-use Rattle.ordered_commit_moves.specs.Moves.{after_moves, begun, claims_of_others, is_taken, recorded_as, text_of_worker}
+use Rattle.reduce_journal.specs.History.{History, asked_records_of, records_of}
+use Rattle.ordered_commit_moves.specs.Replay.{AllGoWith, CommitsWhatIsAsked, GoesWith, answered, record_at, replay, replay_from}
+use Rattle.ordered_commit_moves.specs.Moves.{AreMoves, Claims, Commits, CoreState, KeptVerdicts, MayMake, Move, OpenClaim, Recalls, Records, after_move}
+use Rattle.ordered_commit_moves.specs.Moves.{after_moves, begun, claims_of_others, is_recorded, is_taken, kept_of, kept_record, recalled_as, recorded_as}
+use Rattle.ordered_commit_moves.specs.Moves.{text_of_worker}
 use Rattle.ordered_commit_moves.specs.Laws.{AnyOrderHolds, HoldsOf, all_texts}
+
+-- what is asked may be asked
+pub asked_may : (p : Plan) (text : List ℕ) → asked p ≡ Some text → MayAsk p text
+asked_may (End result) text asks = absurd (cc asks)
+asked_may (Ask t at_yes at_no) text asks = inl (cc asks)
 
 -- ---- histories that grow
 
-pub records_more : (h : History) (t : List ℕ) (v : Verdict) → records_of (h ++ Recorded t v ∷ []) ≡ records_of h ++ record { text = t; verdict = v } ∷ []
-records_more [] t v = refl
-records_more (Recorded a b ∷ h) t v = ap (λ (rs : List Record). record { text = a; verdict = b } ∷ rs) (records_more h t v)
-records_more (Committed n ∷ h) t v = records_more h t v
+pub records_more : (h : History) (t : List ℕ) (v : Verdict) (k : Bool)
+    → records_of (h ++ Recorded t v k ∷ []) ≡ records_of h ++ record { text = t; verdict = v } ∷ []
+records_more [] t v k = refl
+records_more (Recorded a b j ∷ h) t v k = ap (λ (rs : List Record). record { text = a; verdict = b } ∷ rs) (records_more h t v k)
+records_more (Committed n ∷ h) t v k = records_more h t v k
 
 pub records_same : (h : History) (n : ℕ) → records_of (h ++ Committed n ∷ []) ≡ records_of h
 records_same [] n = refl
-records_same (Recorded a b ∷ h) n = ap (λ (rs : List Record). record { text = a; verdict = b } ∷ rs) (records_same h n)
+records_same (Recorded a b j ∷ h) n = ap (λ (rs : List Record). record { text = a; verdict = b } ∷ rs) (records_same h n)
 records_same (Committed m ∷ h) n = records_same h n
 
+-- the records that aren't kept
+pub asked_more : (h : History) (t : List ℕ) (v : Verdict)
+    → asked_records_of (h ++ Recorded t v false ∷ []) ≡ asked_records_of h ++ record { text = t; verdict = v } ∷ []
+asked_more [] t v = refl
+asked_more (Recorded a b false ∷ h) t v = ap (λ (rs : List Record). record { text = a; verdict = b } ∷ rs) (asked_more h t v)
+asked_more (Recorded a b true ∷ h) t v = asked_more h t v
+asked_more (Committed n ∷ h) t v = asked_more h t v
+
+pub asked_same : (h : History) (n : ℕ) → asked_records_of (h ++ Committed n ∷ []) ≡ asked_records_of h
+asked_same [] n = refl
+asked_same (Recorded a b false ∷ h) n = ap (λ (rs : List Record). record { text = a; verdict = b } ∷ rs) (asked_same h n)
+asked_same (Recorded a b true ∷ h) n = asked_same h n
+asked_same (Committed m ∷ h) n = asked_same h n
+
+pub asked_recalled : (h : History) (t : List ℕ) (v : Verdict) → asked_records_of (h ++ Recorded t v true ∷ []) ≡ asked_records_of h
+asked_recalled [] t v = refl
+asked_recalled (Recorded a b false ∷ h) t v = ap (λ (rs : List Record). record { text = a; verdict = b } ∷ rs) (asked_recalled h t v)
+asked_recalled (Recorded a b true ∷ h) t v = asked_recalled h t v
+asked_recalled (Committed n ∷ h) t v = asked_recalled h t v
+
 -- a record leads the reducer nowhere
-pub replay_record : (es : List Record) (p : Plan) (h : History) (t : List ℕ) (v : Verdict) → replay_from es p (h ++ Recorded t v ∷ []) ≡ replay_from es p h
-replay_record es p [] t v = refl
-replay_record es p (Recorded a b ∷ h) t v = replay_record (es ++ record { text = a; verdict = b } ∷ []) p h t v
-replay_record es p (Committed n ∷ h) t v = replay_record es (answered (record_at n es) p) h t v
+pub replay_record : (es : List Record) (p : Plan) (h : History) (t : List ℕ) (v : Verdict) (k : Bool)
+    → replay_from es p (h ++ Recorded t v k ∷ []) ≡ replay_from es p h
+replay_record es p [] t v k = refl
+replay_record es p (Recorded a b j ∷ h) t v k = replay_record (es ++ record { text = a; verdict = b } ∷ []) p h t v k
+replay_record es p (Committed n ∷ h) t v k = replay_record es (answered (record_at n es) p) h t v k
 
 -- a commit answers it with the record that it names
 pub replay_commit : (es : List Record) (p : Plan) (h : History) (n : ℕ)
     → replay_from es p (h ++ Committed n ∷ []) ≡ answered (record_at n (es ++ records_of h)) (replay_from es p h)
 replay_commit es p [] n = ap (λ (rs : List Record). answered (record_at n rs) p) (sym (append-nil es))
-replay_commit es p (Recorded a b ∷ h) n =
+replay_commit es p (Recorded a b j ∷ h) n =
     let r : Record = record { text = a; verdict = b } in
     replay_commit (es ++ r ∷ []) p h n ∙ ap (λ (rs : List Record). answered (record_at n rs) (replay_from (es ++ r ∷ []) p h))
     (append_assoc es (r ∷ []) (records_of h))
 replay_commit es p (Committed m ∷ h) n = replay_commit es (answered (record_at m es) p) h n
 
-pub commits_record : (es : List Record) (p : Plan) (h : History) (t : List ℕ) (v : Verdict) → CommitsWhatIsAsked es p h
-    → CommitsWhatIsAsked es p (h ++ Recorded t v ∷ [])
-commits_record es p [] t v c = tt
-commits_record es p (Recorded a b ∷ h) t v c = commits_record (es ++ record { text = a; verdict = b } ∷ []) p h t v c
-commits_record es p (Committed n ∷ h) t v c = (c.0, c.1, c.2, commits_record es (after p (c.0).verdict) h t v c.3)
+pub commits_record : (es : List Record) (p : Plan) (h : History) (t : List ℕ) (v : Verdict) (k : Bool) → CommitsWhatIsAsked es p h
+    → CommitsWhatIsAsked es p (h ++ Recorded t v k ∷ [])
+commits_record es p [] t v k c = tt
+commits_record es p (Recorded a b j ∷ h) t v k c = commits_record (es ++ record { text = a; verdict = b } ∷ []) p h t v k c
+commits_record es p (Committed n ∷ h) t v k c = (c.0, c.1, c.2, commits_record es (after p (c.0).verdict) h t v k c.3)
 
 pub commits_commit : (es : List Record) (p : Plan) (h : History) (n : ℕ) (r : Record) → CommitsWhatIsAsked es p h → record_at n (es ++ records_of h) ≡ Some r
     → asked (replay_from es p h) ≡ Some r.text → CommitsWhatIsAsked es p (h ++ Committed n ∷ [])
 commits_commit es p [] n r c at is = (r, ap (record_at n) (sym (append-nil es)) ∙ at, is, tt)
-commits_commit es p (Recorded a b ∷ h) n r c at is =
+commits_commit es p (Recorded a b j ∷ h) n r c at is =
     let q : Record = record { text = a; verdict = b } in
     commits_commit (es ++ q ∷ []) p h n r c (ap (record_at n) (append_assoc es (q ∷ []) (records_of h)) ∙ at) is
 commits_commit es p (Committed m ∷ h) n r c at is =
     let same : answered (record_at m es) p ≡ after p (c.0).verdict = ap (λ (o : Option Record). answered o p) c.1 in
     (c.0, c.1, c.2, commits_commit es (after p (c.0).verdict) h n r c.3 at (ap (λ (s : Plan). asked (replay_from es s h)) (sym same) ∙ is))
+
+-- one event more goes with the kept verdicts
+pub go_with_more : (K : KeptVerdicts) (h : History) (e : Event) → AllGoWith K h → GoesWith K e → AllGoWith K (h ++ e ∷ [])
+go_with_more K [] e all goes = (goes, tt)
+go_with_more K (x ∷ h) e all goes = (all.0, go_with_more K h e all.1 goes)
+
+-- where none is kept, each record is asked
+pub none_recalled : (h : History) → AllGoWith (verdict_in []) h → asked_records_of h ≡ records_of h
+none_recalled [] all = refl
+none_recalled (Recorded t v false ∷ h) all = ap (λ (rs : List Record). record { text = t; verdict = v } ∷ rs) (none_recalled h all.1)
+none_recalled (Recorded t v true ∷ h) all = absurd (cc all.0)
+none_recalled (Committed n ∷ h) all = none_recalled h all.1
 
 -- ---- records by number
 
@@ -151,7 +193,7 @@ first_is : {X : Type 0} (P : X → Type 0) (p : X → Bool) (xs : List X) (y : X
 first_is P p [] y is all = absurd (cc is)
 first_is P p (x ∷ xs) y is all = first_at P p x xs y (p x) refl is all (first_is P p xs y)
 
-not_true : (b : Bool) → not b ≡ true → b ≡ false
+pub not_true : (b : Bool) → not b ≡ true → b ≡ false
 not_true true is = absurd (cc is)
 not_true false is = refl
 
@@ -159,10 +201,44 @@ some_text : (o : Option (List ℕ)) → IsSome o → (t : List ℕ) × (o ≡ So
 some_text None some = absurd (cc some)
 some_text (Some t) some = (t, refl)
 
+-- ---- kept verdicts
+
+pub no_verdict : (o : Option Verdict) → is_some o ≡ false → o ≡ None
+no_verdict None none = refl
+no_verdict (Some v) none = absurd (cc none)
+
+kept_at : (K : KeptVerdicts) (t : List ℕ) (r : Record) (o : Option Verdict) → K t ≡ o → option_map (kept_record t) o ≡ Some r
+    → (◌≡◌ {A = Option (List ℕ)} (Some t) (Some r.text)) × (K r.text ≡ Some r.verdict)
+kept_at K t r None k e = absurd (cc e)
+kept_at K t r (Some v) k e =
+    let same : kept_record t v ≡ r = cc e in
+    (ap (λ (s : Record). Some s.text) same, subst (λ (s : Record). K s.text ≡ Some s.verdict) same k)
+
+-- what can be recalled is what is asked, with its kept verdict
+pub kept_found : (K : KeptVerdicts) (asks : Option (List ℕ)) (r : Record) → kept_of K asks ≡ Some r → (asks ≡ Some r.text) × (K r.text ≡ Some r.verdict)
+kept_found K None r e = absurd (cc e)
+kept_found K (Some t) r e = kept_at K t r (K t) refl e
+
+-- the claims are of texts without a kept verdict
+abbrev AreNotKept : KeptVerdicts → List OpenClaim → Type 0
+AreNotKept K cs = All (λ (c : OpenClaim). K c.text ≡ None) cs
+
+-- so none is of a text that has one
+not_claimed : (K : KeptVerdicts) (cs : List OpenClaim) (t : List ℕ) (v : Verdict) → K t ≡ Some v → AreNotKept K cs
+    → list_any (bytes_eq t) (map (λ (c : OpenClaim). c.text) cs) ≡ false
+not_claimed K [] t v is none = refl
+not_claimed K (c ∷ cs) t v is none = elim (cases_Bool (bytes_eq t c.text)) [
+  | inl same ↦
+      let text : t ≡ c.text = (bytes_eq-Decides t c.text).0 same in
+      let no : ◌≡◌ {A = Option Verdict} (Some v) None = sym is ∙ (ap K text ∙ All-head (λ (d : OpenClaim). K d.text ≡ None) c cs none) in
+      absurd (cc no)
+  | inr other ↦ rw other (not_claimed K cs t v is (All-tail (λ (d : OpenClaim). K d.text ≡ None) c cs none))
+]
+
 -- ---- a run
 
 -- What each move keeps.
-record IsRun (first : Plan) (state : CoreState) : Type 0 where
+record IsRun (first : Plan) (kept : KeptVerdicts) (state : CoreState) : Type 0 where
   distinct : IsDistinct bytes_eq (all_texts state)
   one_each : IsDistinct nat_eq (map (λ (c : OpenClaim). c.worker) state.claims)
   may_ask : All (MayAsk first) (all_texts state)
@@ -170,17 +246,28 @@ record IsRun (first : Plan) (state : CoreState) : Type 0 where
   replayed : state.front ≡ replay first state.history
   follows : (V : List ℕ → Option Verdict) → Extends V (records_of state.history) → follow V first ≡ follow V state.front
   still_may : (text : List ℕ) → MayAsk state.front text → MayAsk first text
+  same_kept : state.kept ≡ kept
+  go_with : AllGoWith kept state.history
+  not_kept : AreNotKept kept state.claims
 
-module _ (first : Plan) (state : CoreState) (run : IsRun first state) where
+module _ (first : Plan) (kept : KeptVerdicts) (state : CoreState) (run : IsRun first kept state) where
+  abbrev IsNotKept : OpenClaim → Type 0
+  IsNotKept c = kept c.text ≡ None
+
   -- a text is claimed
-  claimed : (workers worker : ℕ) (text : List ℕ) → MayMake workers state (Claims worker text) → IsRun first (after_move state (Claims worker text))
+  claimed : (workers worker : ℕ) (text : List ℕ) → MayMake workers state (Claims worker text) → IsRun first kept (after_move state (Claims worker text))
   claimed workers worker text may =
       let found : MayAsk state.front text × (not (is_taken state text) ≡ true) =
       first_is (MayAsk state.front) (λ t. not (is_taken state t)) (ahead (2 * workers) state.front) text may.3 (ahead_may state.front [] (2 * workers)) in
       let texts : List (List ℕ) = texts_of (records_of state.history) in
       let c : OpenClaim = record { worker = worker; text = text } in
+      let free : ((is_recorded state text || list_any (bytes_eq text) (map (λ (d : OpenClaim). d.text) state.claims)) ≡ false)
+      × (is_some (state.kept text) ≡ false) =
+      or_parts (is_recorded state text || list_any (bytes_eq text) (map (λ (d : OpenClaim). d.text) state.claims)) (is_some (state.kept text))
+      (not_true (is_taken state text) found.1) in
       let absent : list_any (bytes_eq text) (all_texts state) ≡ false =
-      list_any-append (bytes_eq text) texts (map (λ (d : OpenClaim). d.text) state.claims) ∙ not_true (is_taken state text) found.1 in
+      list_any-append (bytes_eq text) texts (map (λ (d : OpenClaim). d.text) state.claims) ∙ free.0 in
+      let none : kept text ≡ None = ap (λ (K : KeptVerdicts). K text) (sym run.same_kept) ∙ no_verdict (state.kept text) free.1 in
       let more : all_texts (after_move state (Claims worker text)) ≡ all_texts state ++ text ∷ [] =
       ap (λ (ts : List (List ℕ)). texts ++ ts) (map-append (λ (d : OpenClaim). d.text) state.claims (c ∷ []))
       ∙ sym (append_assoc texts (map (λ (d : OpenClaim). d.text) state.claims) (text ∷ [])) in
@@ -196,21 +283,25 @@ module _ (first : Plan) (state : CoreState) (run : IsRun first state) where
         replayed = run.replayed;
         follows = run.follows;
         still_may = run.still_may;
+        same_kept = run.same_kept;
+        go_with = run.go_with;
+        not_kept = All-push IsNotKept state.claims c run.not_kept none;
       }
 
   -- a claimed text gets its verdict
   recorded : (worker : ℕ) (verdict : Verdict) (text : List ℕ) → text_of_worker worker state.claims ≡ Some text
-      → IsRun first (after_move state (Records worker verdict))
+      → IsRun first kept (after_move state (Records worker verdict))
   recorded worker verdict text is =
       let r : Record = record { text = text; verdict = verdict } in
       let c : OpenClaim = record { worker = worker; text = text } in
       let others : List OpenClaim = claims_of_others worker state.claims in
       let texts : List (List ℕ) = texts_of (records_of state.history) in
       let shuffled : IsPermutation state.claims (c ∷ others) = taken worker state.claims text run.one_each is in
-      let history : (after_move state (Records worker verdict)).history ≡ state.history ++ Recorded text verdict ∷ [] =
+      let history : (after_move state (Records worker verdict)).history ≡ state.history ++ Recorded text verdict false ∷ [] =
       ap (λ (o : Option (List ℕ)). state.history ++ recorded_as o verdict) is in
       let records : records_of (after_move state (Records worker verdict)).history ≡ records_of state.history ++ r ∷ [] =
-      ap records_of history ∙ records_more state.history text verdict in
+      ap records_of history ∙ records_more state.history text verdict false in
+      let apart : AreNotKept kept (c ∷ others) = All-permutation IsNotKept state.claims (c ∷ others) shuffled run.not_kept in
       let all : all_texts (after_move state (Records worker verdict)) ≡ texts ++ text ∷ map (λ (d : OpenClaim). d.text) others =
       ap (λ (rs : List Record). texts_of rs ++ map (λ (d : OpenClaim). d.text) others) records
       ∙ ap (λ (ts : List (List ℕ)). ts ++ map (λ (d : OpenClaim). d.text) others) (map-append (λ (q : Record). q.text) (records_of state.history) (r ∷ []))
@@ -229,15 +320,57 @@ module _ (first : Plan) (state : CoreState) (run : IsRun first state) where
             (IsDistinct-IsPermutation nat_eq nat_eq_equiv.symm (map (λ (d : OpenClaim). d.worker) state.claims)
             (worker ∷ map (λ (d : OpenClaim). d.worker) others) same_workers run.one_each);
         may_ask = rw all (All-permutation (MayAsk first) (all_texts state) (texts ++ text ∷ map (λ (d : OpenClaim). d.text) others) same_texts run.may_ask);
-        commits = rw history (commits_record [] first state.history text verdict run.commits);
-        replayed = run.replayed ∙ sym (ap (replay first) history ∙ replay_record [] first state.history text verdict);
+        commits = rw history (commits_record [] first state.history text verdict false run.commits);
+        replayed = run.replayed ∙ sym (ap (replay first) history ∙ replay_record [] first state.history text verdict false);
         follows = λ V extends. run.follows V (extends_front V (records_of state.history) (r ∷ []) (subst (Extends V) records extends));
         still_may = run.still_may;
+        same_kept = run.same_kept;
+        go_with = rw history (go_with_more kept state.history (Recorded text verdict false) run.go_with (All-head IsNotKept c others apart));
+        not_kept = All-tail IsNotKept c others apart;
+      }
+
+  -- the text that the front asks gets the verdict that is kept for it
+  recalled : (r : Record) → kept_of state.kept (asked state.front) ≡ Some r → is_recorded state r.text ≡ false → IsRun first kept (after_move state Recalls)
+  recalled r is new =
+      let found : (asked state.front ≡ Some r.text) × (state.kept r.text ≡ Some r.verdict) = kept_found state.kept (asked state.front) r is in
+      let verdict : kept r.text ≡ Some r.verdict = ap (λ (K : KeptVerdicts). K r.text) (sym run.same_kept) ∙ found.1 in
+      let q : Record = kept_record r.text r.verdict in
+      let texts : List (List ℕ) = texts_of (records_of state.history) in
+      let claimed : List (List ℕ) = map (λ (c : OpenClaim). c.text) state.claims in
+      let history : (after_move state Recalls).history ≡ state.history ++ Recorded r.text r.verdict true ∷ [] =
+      ap (λ (o : Option Record). state.history ++ recalled_as o) is in
+      let records : records_of (after_move state Recalls).history ≡ records_of state.history ++ q ∷ [] =
+      ap records_of history ∙ records_more state.history r.text r.verdict true in
+      let absent : list_any (bytes_eq r.text) (all_texts state) ≡ false =
+      list_any-append (bytes_eq r.text) texts claimed
+      ∙ (ap (λ (b : Bool). b || list_any (bytes_eq r.text) claimed) new ∙ not_claimed kept state.claims r.text r.verdict verdict run.not_kept) in
+      let all : all_texts (after_move state Recalls) ≡ texts ++ r.text ∷ claimed =
+      ap (λ (rs : List Record). texts_of rs ++ claimed) records
+      ∙ ap (λ (ts : List (List ℕ)). ts ++ claimed) (map-append (λ (s : Record). s.text) (records_of state.history) (q ∷ []))
+      ∙ append_assoc texts (r.text ∷ []) claimed in
+      let last_first : IsPermutation (claimed ++ r.text ∷ []) (r.text ∷ claimed) =
+      subst (λ (ts : List (List ℕ)). IsPermutation (claimed ++ r.text ∷ []) (r.text ∷ ts)) (append-nil claimed) (IsPermutation-middle claimed r.text []) in
+      let shuffled : IsPermutation (all_texts state ++ r.text ∷ []) (texts ++ r.text ∷ claimed) =
+      subst (λ (ts : List (List ℕ)). IsPermutation ts (texts ++ r.text ∷ claimed)) (sym (append_assoc texts claimed (r.text ∷ [])))
+      (IsPermutation-append_right texts (claimed ++ r.text ∷ []) (r.text ∷ claimed) last_first) in
+      record {
+        distinct = rw all (IsDistinct-IsPermutation bytes_eq nat_list_eq_equiv.symm (all_texts state ++ r.text ∷ []) (texts ++ r.text ∷ claimed) shuffled
+            (IsDistinct-push nat_list_eq_equiv (all_texts state) r.text run.distinct absent));
+        one_each = run.one_each;
+        may_ask = rw all (All-permutation (MayAsk first) (all_texts state ++ r.text ∷ []) (texts ++ r.text ∷ claimed) shuffled
+            (All-push (MayAsk first) (all_texts state) r.text run.may_ask (run.still_may r.text (asked_may state.front r.text found.0))));
+        commits = rw history (commits_record [] first state.history r.text r.verdict true run.commits);
+        replayed = run.replayed ∙ sym (ap (replay first) history ∙ replay_record [] first state.history r.text r.verdict true);
+        follows = λ V extends. run.follows V (extends_front V (records_of state.history) (q ∷ []) (subst (Extends V) records extends));
+        still_may = run.still_may;
+        same_kept = run.same_kept;
+        go_with = rw history (go_with_more kept state.history (Recorded r.text r.verdict true) run.go_with verdict);
+        not_kept = run.not_kept;
       }
 
   -- the front is answered with a record
   committed : (number : ℕ) (r : Record) → record_at number (records_of state.history) ≡ Some r → asked state.front ≡ Some r.text
-      → IsRun first (after_move state (Commits number))
+      → IsRun first kept (after_move state (Commits number))
   committed number r at is =
       let same : records_of (state.history ++ Committed number ∷ []) ≡ records_of state.history = records_same state.history number in
       let texts : all_texts (after_move state (Commits number)) ≡ all_texts state =
@@ -255,31 +388,38 @@ module _ (first : Plan) (state : CoreState) (run : IsRun first state) where
             run.follows V before ∙ follow_after V state.front r.verdict r.text is (extends_at V (records_of state.history) number r at before)
             ∙ ap (follow V) (sym front);
         still_may = λ text may. run.still_may text (after_may state.front r.verdict r.text text is (subst (λ (p : Plan). MayAsk p text) front may));
+        same_kept = run.same_kept;
+        go_with = go_with_more kept state.history (Committed number) run.go_with tt;
+        not_kept = run.not_kept;
       }
 
-  moved : (workers : ℕ) (move : Move) → MayMake workers state move → IsRun first (after_move state move)
+  moved : (workers : ℕ) (move : Move) → MayMake workers state move → IsRun first kept (after_move state move)
   moved workers (Claims worker text) may = claimed workers worker text may
   moved workers (Records worker verdict) may = let some : (t : List ℕ) × (text_of_worker worker state.claims ≡ Some t) =
       some_text (text_of_worker worker state.claims) may in recorded worker verdict some.0 some.1
+  moved workers Recalls may = recalled may.0 may.1 may.2
   moved workers (Commits number) may = committed number may.0 may.1 may.2
 
-runs : (workers : ℕ) (first : Plan) (state : CoreState) (moves : List Move) → IsRun first state → AreMoves workers state moves
-    → IsRun first (after_moves state moves)
-runs workers first state [] run are = run
-runs workers first state (move ∷ moves) run are = runs workers first (after_move state move) moves (moved first state run workers move are.0) are.1
+runs : (workers : ℕ) (first : Plan) (kept : KeptVerdicts) (state : CoreState) (moves : List Move) → IsRun first kept state → AreMoves workers state moves
+    → IsRun first kept (after_moves state moves)
+runs workers first kept state [] run are = run
+runs workers first kept state (move ∷ moves) run are =
+    runs workers first kept (after_move state move) moves (moved first kept state run workers move are.0) are.1
 
-begins : (first : Plan) → IsRun first (begun first)
+begins : (first : Plan) (kept : KeptVerdicts) → IsRun first kept (begun first kept)
 unfolding IsDistinct
-begins first =
-    record {
-      distinct = tt;
-      one_each = tt;
-      may_ask = All-nil (MayAsk first);
-      commits = tt;
-      replayed = refl;
-      follows = λ V extends. refl;
-      still_may = λ text may. may;
-    }
+begins first kept = record {
+  distinct = tt;
+  one_each = tt;
+  may_ask = All-nil (MayAsk first);
+  commits = tt;
+  replayed = refl;
+  follows = λ V extends. refl;
+  still_may = λ text may. may;
+  same_kept = refl;
+  go_with = tt;
+  not_kept = All-nil (λ (c : OpenClaim). kept c.text ≡ None);
+}
 
 -- ---- what holds of a run
 
@@ -296,14 +436,17 @@ stops workers state never None is = follow_ended (verdict_in (records_of state.h
 stops workers state never (Some text) is =
     stays (verdict_in (records_of state.history)) state.front text is (unrecorded workers state text is never (verdict_in (records_of state.history) text) refl)
 
-holds : (workers : ℕ) (first : Plan) (state : CoreState) → IsRun first state → HoldsOf workers first state
-holds workers first state run =
+holds : (workers : ℕ) (first : Plan) (kept : KeptVerdicts) (state : CoreState) → IsRun first kept state → HoldsOf workers first kept state
+holds workers first kept state run =
     let recorded : IsDistinct bytes_eq (texts_of (records_of state.history)) =
     distinct_front bytes_eq (texts_of (records_of state.history)) (map (λ (c : OpenClaim). c.text) state.claims) run.distinct in
     record {
       distinct = run.distinct;
       one_each = run.one_each;
       may_ask = run.may_ask;
+      same_kept = run.same_kept;
+      go_with = run.go_with;
+      not_kept = run.not_kept;
       legal = record { distinct = recorded; commits = run.commits };
       replayed = run.replayed;
       follows = run.follows;
@@ -314,4 +457,5 @@ holds workers first state run =
     }
 
 pub any_order : AnyOrderHolds
-any_order workers first moves are = holds workers first (after_moves (begun first) moves) (runs workers first (begun first) moves (begins first) are)
+any_order workers first kept moves are =
+    holds workers first kept (after_moves (begun first kept) moves) (runs workers first kept (begun first kept) moves (begins first kept) are)

@@ -271,6 +271,9 @@ ends 15 'perses: check: other start' check --mode lines --input other --output r
     tail -n +3 run
 } > first
 ends 0 'check: yes' $byrun --output result --journal first
+# Its verdicts may be kept ones.
+sed 's/^R /K /' run > recalled
+ends 0 'check: yes' $byrun --output result --journal recalled
 ends 15 'perses: check: event 2 is not legal' check --mode lines --input other --output result --journal first
 ends 14 'perses: bad journal head' $byrun --output result --journal lines
 ends 3 'perses: cannot read result' $byrun --output missing --journal run

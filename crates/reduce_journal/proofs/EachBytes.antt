@@ -4,7 +4,7 @@ use Rattle.std.proofs.Common.{refl, sym, ap, ◌∙◌, subst, arith, append_ass
 use Rattle.reduce_journal.specs.declared.event.Event.{Event}
 use Rattle.reduce_journal.specs.declared.numbers.Mismatch.TheVariants.{Torn, Bad}
 use Rattle.reduce_journal.specs.History.{History, records_with, AllMayFollow}
-use Rattle.reduce_journal.specs.Journal.{head_text, text_under, event_text, IsHead, LacksHead, BeginsWithEvent, IsTorn, IsJournalOf, IsBadAt}
+use Rattle.reduce_journal.specs.Journal.{head_text, text_under, version_of, event_text, IsHead, LacksHead, BeginsWithEvent, IsTorn, IsJournalOf, IsBadAt}
 use Rattle.reduce_journal.specs.inner.Reading.{Parse, event_at}
 use Rattle.reduce_journal.specs.declared.head.Head.{Head}
 use Rattle.reduce_journal.proofs.Events.{event_decides}
@@ -12,17 +12,18 @@ use Rattle.reduce_journal.proofs.Heads.{each_head}
 use Rattle.reduce_journal.proofs.Journals.{count_after, count_from_none, few_records, some_text, texts}
 
 -- these bytes after so many records: events, and a tail that is torn or bad
-record Parts (records : ℕ) (bytes : List ℕ) : Type 0 where
+record Parts (version records : ℕ) (bytes : List ℕ) : Type 0 where
   events : History
   tail : List ℕ
-  follow : AllMayFollow records events
+  follow : AllMayFollow version records events
   whole : bytes ≡ texts events ++ tail
-  ends : IsTorn (count_after records events) tail ⊎ ((¬ BeginsWithEvent (count_after records events) tail) × (¬ IsTorn (count_after records events) tail))
+  ends : IsTorn version (count_after records events) tail
+      ⊎ ((¬ BeginsWithEvent version (count_after records events) tail) × (¬ IsTorn version (count_after records events) tail))
 
-one_step : (k : ℕ) (bytes : List ℕ) → k < 2 ^ 64 → ((e : Event) (later : List ℕ) → length later < length bytes → Parts (records_with k e) later)
-    → (r : Parse Event) → event_at k bytes ≡ r → Parts k bytes
-one_step k bytes fits later (Ok found) e =
-    let s = (event_decides k fits).sound bytes found e in
+one_step : (v k : ℕ) (bytes : List ℕ) → k < 2 ^ 64 → ((e : Event) (later : List ℕ) → length later < length bytes → Parts v (records_with k e) later)
+    → (r : Parse Event) → event_at v k bytes ≡ r → Parts v k bytes
+one_step v k bytes fits later (Ok found) e =
+    let s = (event_decides v k fits).sound bytes found e in
     let rest = later found.0 found.1 (omega (arith, ap length s.1, length-append (event_text found.0) found.1, some_text found.0)) in
     record {
       events = found.0 ∷ rest.events;
@@ -31,31 +32,31 @@ one_step k bytes fits later (Ok found) e =
       whole = s.1 ∙ (ap (λ t. event_text found.0 ++ t) rest.whole ∙ sym (append_assoc (event_text found.0) (texts rest.events) rest.tail));
       ends = rest.ends;
     }
-one_step k bytes fits later (Err Torn) e = record {
+one_step v k bytes fits later (Err Torn) e = record {
   events = [];
   tail = bytes;
   follow = tt;
   whole = refl;
-  ends = inl ((event_decides k fits).torn bytes e);
+  ends = inl ((event_decides v k fits).torn bytes e);
 }
-one_step k bytes fits later (Err Bad) e =
-    let d = event_decides k fits in
+one_step v k bytes fits later (Err Bad) e =
+    let d = event_decides v k fits in
     record {
       events = [];
       tail = bytes;
       follow = tt;
       whole = refl;
-      ends = inr ((λ b. let there = sym e ∙ (ap (event_at k) b.3 ∙ d.back b.0 b.1 b.2) in cc there), (λ b. let there = sym e ∙ d.cut bytes b in cc there));
+      ends = inr ((λ b. let there = sym e ∙ (ap (event_at v k) b.3 ∙ d.back b.0 b.1 b.2) in cc there), (λ b. let there = sym e ∙ d.cut bytes b in cc there));
     }
 
-parts : (fuel k : ℕ) (bytes : List ℕ) → length bytes < fuel → k + length bytes < 2 ^ 64 → Parts k bytes
-parts zero k bytes less fits = absurd (omega arith)
-parts (suc fuel) k bytes less fits =
-    one_step k bytes (omega (arith, fits))
-    (λ e later shorter. let few = few_records k e in parts fuel (records_with k e) later (omega (arith, less, shorter)) (omega (arith, fits, shorter, few)))
-    (event_at k bytes) refl
+parts : (fuel v k : ℕ) (bytes : List ℕ) → length bytes < fuel → k + length bytes < 2 ^ 64 → Parts v k bytes
+parts zero v k bytes less fits = absurd (omega arith)
+parts (suc fuel) v k bytes less fits =
+    one_step v k bytes (omega (arith, fits))
+    (λ e later shorter. let few = few_records k e in parts fuel v (records_with k e) later (omega (arith, less, shorter)) (omega (arith, fits, shorter, few)))
+    (event_at v k bytes) refl
 
-after_head : (bytes rest : List ℕ) (first : Head) → IsHead first → bytes ≡ head_text first ++ rest → Parts 0 rest
+after_head : (bytes rest : List ℕ) (first : Head) → IsHead first → bytes ≡ head_text first ++ rest → Parts (version_of first) 0 rest
     → ((first : Head) × (events : History) × (torn : ℕ) × IsJournalOf bytes first events torn) ⊎ ((offset : ℕ) × IsBadAt bytes offset)
 after_head bytes rest first is_head begins p =
     let whole : bytes ≡ text_under first p.events ++ p.tail =
@@ -68,7 +69,7 @@ after_head bytes rest first is_head begins p =
         record {
           tail = p.tail;
           before = record { is_head = is_head; history = p.follow; whole = whole };
-          is_torn = subst (λ n. IsTorn n p.tail) (count_from_none p.events) torn;
+          is_torn = subst (λ n. IsTorn (version_of first) n p.tail) (count_from_none p.events) torn;
           torn_bytes = refl;
         },
       )
@@ -80,8 +81,8 @@ after_head bytes rest first is_head begins p =
           tail = p.tail;
           before = record { is_head = is_head; history = p.follow; whole = whole };
           at_offset = refl;
-          no_event = subst (λ n. ¬ BeginsWithEvent n p.tail) (count_from_none p.events) bad.0;
-          not_torn = subst (λ n. ¬ IsTorn n p.tail) (count_from_none p.events) bad.1;
+          no_event = subst (λ n. ¬ BeginsWithEvent (version_of first) n p.tail) (count_from_none p.events) bad.0;
+          not_torn = subst (λ n. ¬ IsTorn (version_of first) n p.tail) (count_from_none p.events) bad.1;
         },
       )
     ]
@@ -92,6 +93,6 @@ each_bytes bytes fits = elim (each_head bytes) [
   | inl found ↦
       let rest : List ℕ = found.1 in
       inr (after_head bytes rest found.0 found.2 found.3
-      (parts (suc (length rest)) 0 rest (omega arith) (omega (arith, fits, ap length found.3, length-append (head_text found.0) rest))))
+      (parts (suc (length rest)) (version_of found.0) 0 rest (omega arith) (omega (arith, fits, ap length found.3, length-append (head_text found.0) rest))))
   | inr lacks ↦ inl lacks
 ]

@@ -1,6 +1,6 @@
 -- Journals: each list of bytes has one history, and a journal that is cut off has the first events.
 use Rattle.std.proofs.Common.{◌≡◌, ◌≢◌, ◌⊎◌, inl, inr, ℕ, suc, ◌+◌, ◌-◌, ◌^◌, ◌<◌, ◌≤◌, List, [], ◌∷◌, ◌++◌, Ok, Err, length}
-use Rattle.std.proofs.Common.{refl, sym, ap, ◌∙◌, subst, arith, append_assoc, append-nil, length-append}
+use Rattle.std.proofs.Common.{true, false, refl, sym, ap, ◌∙◌, subst, arith, append_assoc, append-nil, length-append}
 use Rattle.std.specs.List.{flat_map}
 use Rattle.std.specs.Prelude.{IsErrOf}
 use Rattle.script_gate_trait.specs.declared.gate.Verdict.TheVariants.{Yes, No}
@@ -14,7 +14,7 @@ use Rattle.reduce_journal.specs.declared.read.Journal.{Journal}
 use Rattle.reduce_journal.specs.declared.read.JournalFault.{JournalFault}
 use Rattle.reduce_journal.specs.declared.read.JournalFault.TheVariants.{BadHead, BadRecord, Memory}
 use Rattle.reduce_journal.specs.History.{History, records_of, records_with, MayFollow, AllMayFollow, IsHistory}
-use Rattle.reduce_journal.specs.Journal.{head, head_text, text_under, event_text, journal_text, IsDigest, IsHead}
+use Rattle.reduce_journal.specs.Journal.{head, head_text, text_under, version_of, event_text, journal_text, IsDigest, IsHead}
 use Rattle.reduce_journal.specs.Journal.{BeginsWithEvent, IsTorn, HasEvents, IsJournalOf, IsBadAt, IsReadAs, GivesJournal}
 use Rattle.reduce_journal.specs.inner.Reading.{event_at}
 use Rattle.reduce_journal.proofs.Lists.{cut_apart, same_found, some_after}
@@ -25,24 +25,40 @@ use Rattle.reduce_journal.proofs.Heads.{one_head}
 abbrev pub texts : History → List ℕ
 texts events = flat_map event_text events
 
--- an event that may come after some records may come after the most that there are
-wider : (records : ℕ) (e : Event) → MayFollow records e → MayFollow (2 ^ 64 - 1) e
-wider records (Recorded text verdict) p = record { text = p.text; names = tt }
-wider records (Committed number) p = record { text = tt; names = (p.names.0, omega (arith, p.names), p.names.2) }
+-- an event that may come after some records may come after the most that there are, in version 2
+wider : (version records : ℕ) (e : Event) → MayFollow version records e → MayFollow 2 (2 ^ 64 - 1) e
+wider version records (Recorded text verdict false) p = record { of_version = tt; text = p.text; names = tt }
+wider version records (Recorded text verdict true) p = record { of_version = refl; text = p.text; names = tt }
+wider version records (Committed number) p = record { of_version = tt; text = tt; names = (p.names.0, omega (arith, p.names), p.names.2) }
+
+-- and an event of some version may come there in version 2
+in_version_2 : (version records : ℕ) (e : Event) → MayFollow version records e → MayFollow 2 records e
+in_version_2 version records (Recorded text verdict false) p = record { of_version = tt; text = p.text; names = tt }
+in_version_2 version records (Recorded text verdict true) p = record { of_version = refl; text = p.text; names = tt }
+in_version_2 version records (Committed number) p = record { of_version = tt; text = tt; names = p.names }
+
+all_in_version_2 : (version records : ℕ) (events : History) → AllMayFollow version records events → AllMayFollow 2 records events
+all_in_version_2 version records [] all = tt
+all_in_version_2 version records (e ∷ events) all =
+    (in_version_2 version records e all.0, all_in_version_2 version (records_with records e) events all.1)
+
+-- so the events of a journal are a history
+pub is_history : (bytes : List ℕ) (first : Head) (events : History) (torn : ℕ) → IsJournalOf bytes first events torn → IsHistory events
+is_history bytes first events torn is = all_in_version_2 (version_of first) 0 events is.before.history
 
 -- no event's text begins another's
-one_event : (k l : ℕ) (a b : Event) (x y : List ℕ) → MayFollow k a → MayFollow l b → event_text a ++ x ≡ event_text b ++ y → (a ≡ b) × (x ≡ y)
-one_event k l a b x y p q e =
-    let d = event_decides (2 ^ 64 - 1) (omega arith) in
-    let is = same_found _ _ (sym (d.back a x (wider k a p)) ∙ (ap (event_at (2 ^ 64 - 1)) e ∙ d.back b y (wider l b q))) in
+one_event : (v k w l : ℕ) (a b : Event) (x y : List ℕ) → MayFollow v k a → MayFollow w l b → event_text a ++ x ≡ event_text b ++ y → (a ≡ b) × (x ≡ y)
+one_event v k w l a b x y p q e =
+    let d = event_decides 2 (2 ^ 64 - 1) (omega arith) in
+    let is = same_found _ _ (sym (d.back a x (wider v k a p)) ∙ (ap (event_at 2 (2 ^ 64 - 1)) e ∙ d.back b y (wider w l b q))) in
     (ap (λ (f : Event × List ℕ). f.0) is, ap (λ (f : Event × List ℕ). f.1) is)
 
 -- a torn tail has no event
-torn_no_event : (k l : ℕ) (bytes : List ℕ) → IsTorn k bytes → BeginsWithEvent l bytes → ⊥
-torn_no_event k l bytes torn begins =
+torn_no_event : (v k w l : ℕ) (bytes : List ℕ) → IsTorn v k bytes → BeginsWithEvent w l bytes → ⊥
+torn_no_event v k w l bytes torn begins =
     let e : event_text torn.0 ++ [] ≡ event_text begins.0 ++ (begins.1 ++ torn.1) =
     append-nil (event_text torn.0) ∙ (torn.4 ∙ (ap (λ t. t ++ torn.1) begins.3 ∙ append_assoc (event_text begins.0) begins.1 torn.1)) in
-    some_after begins.1 torn.1 torn.3 (sym (one_event k l torn.0 begins.0 [] (begins.1 ++ torn.1) torn.2 begins.2 e).1)
+    some_after begins.1 torn.1 torn.3 (sym (one_event v k w l torn.0 begins.0 [] (begins.1 ++ torn.1) torn.2 begins.2 e).1)
 
 -- how many records there are after these events
 abbrev pub count_after : ℕ → History → ℕ
@@ -51,26 +67,26 @@ count_after k (e ∷ events) = count_after (records_with k e) events
 
 count_is : (k : ℕ) (events : History) → count_after k events ≡ k + length (records_of events)
 count_is k [] = omega arith
-count_is k (Recorded text verdict ∷ events) = let rest = count_is (suc k) events in omega (arith, rest)
+count_is k (Recorded text verdict kept ∷ events) = let rest = count_is (suc k) events in omega (arith, rest)
 count_is k (Committed number ∷ events) = count_is k events
 
 pub count_from_none : (events : History) → count_after 0 events ≡ length (records_of events)
 count_from_none events = omega (arith, count_is 0 events)
 
 -- events up to a place where no event is are determined by the bytes
-one_history : (k : ℕ) (one other : History) (s t : List ℕ) → AllMayFollow k one → AllMayFollow k other → texts one ++ s ≡ texts other ++ t
-    → ¬ BeginsWithEvent (count_after k one) s → ¬ BeginsWithEvent (count_after k other) t → (one ≡ other) × (s ≡ t)
-one_history k [] [] s t p q e no_s no_t = (refl, e)
-one_history k [] (b ∷ other) s t p q e no_s no_t =
+one_history : (v k : ℕ) (one other : History) (s t : List ℕ) → AllMayFollow v k one → AllMayFollow v k other → texts one ++ s ≡ texts other ++ t
+    → ¬ BeginsWithEvent v (count_after k one) s → ¬ BeginsWithEvent v (count_after k other) t → (one ≡ other) × (s ≡ t)
+one_history v k [] [] s t p q e no_s no_t = (refl, e)
+one_history v k [] (b ∷ other) s t p q e no_s no_t =
     absurd (no_s (b, texts other ++ t, q.0, e ∙ append_assoc (event_text b) (texts other) t))
-one_history k (a ∷ one) [] s t p q e no_s no_t =
+one_history v k (a ∷ one) [] s t p q e no_s no_t =
     absurd (no_t (a, texts one ++ s, p.0, sym e ∙ append_assoc (event_text a) (texts one) s))
-one_history k (a ∷ one) (b ∷ other) s t p q e no_s no_t =
-    let is = one_event k k a b (texts one ++ s) (texts other ++ t) p.0 q.0
+one_history v k (a ∷ one) (b ∷ other) s t p q e no_s no_t =
+    let is = one_event v k v k a b (texts one ++ s) (texts other ++ t) p.0 q.0
     (sym (append_assoc (event_text a) (texts one) s) ∙ (e ∙ append_assoc (event_text b) (texts other) t)) in
     let same : records_with k b ≡ records_with k a = ap (records_with k) (sym is.0) in
-    let rest = one_history (records_with k a) one other s t p.1 (subst (λ n. AllMayFollow n other) same q.1) is.1
-    no_s (subst (λ n. ¬ BeginsWithEvent (count_after n other) t) same no_t) in
+    let rest = one_history v (records_with k a) one other s t p.1 (subst (λ n. AllMayFollow v n other) same q.1) is.1
+    no_s (subst (λ n. ¬ BeginsWithEvent v (count_after n other) t) same no_t) in
     (ap (λ c. c ∷ one) is.0 ∙ ap (λ r. b ∷ r) rest.0, rest.1)
 
 -- the bytes after the head
@@ -85,19 +101,21 @@ same_head bytes first second one other s t p q =
     one_head first second (texts one ++ s) (texts other ++ t) p.is_head q.is_head (sym (after_head bytes first one s p) ∙ after_head bytes second other t q)
 
 same_events : (bytes : List ℕ) (first second : Head) (one other : History) (s t : List ℕ) → HasEvents bytes first one s → HasEvents bytes second other t
-    → ¬ BeginsWithEvent (length (records_of one)) s → ¬ BeginsWithEvent (length (records_of other)) t
+    → ¬ BeginsWithEvent (version_of first) (length (records_of one)) s → ¬ BeginsWithEvent (version_of second) (length (records_of other)) t
     → (first ≡ second) × (one ≡ other) × (s ≡ t)
 same_events bytes first second one other s t p q no_s no_t =
     let heads = same_head bytes first second one other s t p q in
-    let is = one_history 0 one other s t p.history q.history heads.1
-    (subst (λ n. ¬ BeginsWithEvent n s) (sym (count_from_none one)) no_s)
-    (subst (λ n. ¬ BeginsWithEvent n t) (sym (count_from_none other)) no_t) in
+    let version : version_of second ≡ version_of first = ap version_of (sym heads.0) in
+    let is = one_history (version_of first) 0 one other s t p.history (subst (λ v. AllMayFollow v 0 other) version q.history) heads.1
+    (subst (λ n. ¬ BeginsWithEvent (version_of first) n s) (sym (count_from_none one)) no_s)
+    (subst (λ n. ¬ BeginsWithEvent (version_of first) n t) (sym (count_from_none other))
+    (subst (λ v. ¬ BeginsWithEvent v (length (records_of other)) t) version no_t)) in
     (heads.0, is.0, is.1)
 
 journal_ends : (bytes : List ℕ) (first : Head) (events : History) (torn : ℕ) (j : IsJournalOf bytes first events torn)
-    → ¬ BeginsWithEvent (length (records_of events)) j.tail
+    → ¬ BeginsWithEvent (version_of first) (length (records_of events)) j.tail
 journal_ends bytes first events torn j =
-    torn_no_event (length (records_of events)) (length (records_of events)) j.tail j.is_torn
+    torn_no_event (version_of first) (length (records_of events)) (version_of first) (length (records_of events)) j.tail j.is_torn
 
 pub one_journal : (bytes : List ℕ) (first second : Head) (one other : History) (torn torn_other : ℕ) → IsJournalOf bytes first one torn
     → IsJournalOf bytes second other torn_other → (first ≡ second) × (one ≡ other) × (torn ≡ torn_other)
@@ -110,8 +128,9 @@ one_journal bytes first second one other torn torn_other p q =
 pub not_both : (bytes : List ℕ) (first : Head) (events : History) (torn offset : ℕ) → IsJournalOf bytes first events torn → IsBadAt bytes offset → ⊥
 not_both bytes first events torn offset p q =
     let is = same_events bytes first q.first events q.events p.tail q.tail p.before q.before (journal_ends bytes first events torn p) q.no_event in
-    q.not_torn (subst (λ t. IsTorn (length (records_of q.events)) t) is.2
-    (subst (λ h. IsTorn (length (records_of h)) p.tail) is.1 p.is_torn))
+    q.not_torn (subst (λ t. IsTorn (version_of q.first) (length (records_of q.events)) t) is.2
+    (subst (λ h. IsTorn (version_of q.first) (length (records_of h)) p.tail) is.1
+    (subst (λ f. IsTorn (version_of f) (length (records_of events)) p.tail) is.0 p.is_torn)))
 
 pub one_bad : (bytes : List ℕ) (offset other : ℕ) → IsBadAt bytes offset → IsBadAt bytes other → offset ≡ other
 one_bad bytes offset other p q =
@@ -148,14 +167,14 @@ module _ {A : Type 0} (bytes : List ℕ) where
   fails_as_bad (BadRecord other) headed bad offset is = inl (ap (λ (o : ℕ). Err (BadRecord o)) (one_bad bytes other offset (bad other refl) is))
 
 -- nothing is torn off where the bytes end
-nothing_torn : (k : ℕ) → IsTorn k []
-nothing_torn k = (Recorded [] Yes, event_text (Recorded [] Yes), record { text = omega arith; names = tt }, (λ n. cc n), refl)
+nothing_torn : (v k : ℕ) → IsTorn v k []
+nothing_torn v k = (Recorded [] Yes false, event_text (Recorded [] Yes false), record { of_version = tt; text = omega arith; names = tt }, (λ n. cc n), refl)
 
 pub written_whole : (start : Digest) (events : History) → IsDigest start → IsHistory events → IsJournalOf (journal_text start events) (Version2 start) events 0
 written_whole start events digest is = record {
   tail = [];
   before = record { is_head = digest; history = is; whole = sym (append-nil (journal_text start events)) };
-  is_torn = nothing_torn (length (records_of events));
+  is_torn = nothing_torn 2 (length (records_of events));
   torn_bytes = refl;
 }
 
@@ -167,15 +186,15 @@ equal_histories start second one other d c p q e =
     (cc (same.0), same.1)
 
 -- the first bytes of some events: the first of these events, and a torn tail
-cut_events : (k : ℕ) (events : History) (front back : List ℕ) → AllMayFollow k events → texts events ≡ front ++ back
-    → (read later : History) × (tail : List ℕ) × (events ≡ read ++ later) × AllMayFollow k read × (front ≡ texts read ++ tail)
-    × IsTorn (count_after k read) tail
-cut_events k [] [] back all e = ([], [], [], refl, tt, refl, nothing_torn k)
-cut_events k [] (x ∷ front) back all e = cc e
-cut_events k (a ∷ events) front back all e = elim (cut_apart (event_text a) (texts events) front back e) [
+cut_events : (v k : ℕ) (events : History) (front back : List ℕ) → AllMayFollow v k events → texts events ≡ front ++ back
+    → (read later : History) × (tail : List ℕ) × (events ≡ read ++ later) × AllMayFollow v k read × (front ≡ texts read ++ tail)
+    × IsTorn v (count_after k read) tail
+cut_events v k [] [] back all e = ([], [], [], refl, tt, refl, nothing_torn v k)
+cut_events v k [] (x ∷ front) back all e = cc e
+cut_events v k (a ∷ events) front back all e = elim (cut_apart (event_text a) (texts events) front back e) [
   | inl r ↦ ([], a ∷ events, front, refl, tt, refl, (a, r.0, all.0, r.1, r.2))
   | inr r ↦
-      let rest = cut_events (records_with k a) events r.0 back all.1 r.2 in (
+      let rest = cut_events v (records_with k a) events r.0 back all.1 r.2 in (
         a ∷ rest.0,
         rest.1,
         rest.2,
@@ -191,7 +210,7 @@ pub cut_journal : (start : Digest) (events : History) (front back : List ℕ) �
 cut_journal start events front back digest is e long = elim (cut_apart (head start) (texts events) front back e) [
   | inl r ↦ absurd (too_short r.0 r.1 (ap length r.2 ∙ length-append front r.0))
   | inr r ↦
-      let cut = cut_events 0 events r.0 back is r.2 in (
+      let cut = cut_events 2 0 events r.0 back is r.2 in (
         cut.0,
         cut.1,
         length cut.2,
@@ -205,7 +224,7 @@ cut_journal start events front back digest is e long = elim (cut_apart (head sta
                 whole = r.1
                     ∙ (ap (λ t. head start ++ t) cut.5 ∙ sym (append_assoc (head start) (texts cut.0) cut.2));
               };
-          is_torn = subst (λ n. IsTorn n cut.2) (count_from_none cut.0) cut.6;
+          is_torn = subst (λ n. IsTorn 2 n cut.2) (count_from_none cut.0) cut.6;
           torn_bytes = refl;
         },
       )
@@ -216,10 +235,10 @@ cut_journal start events front back digest is e long = elim (cut_apart (head sta
     too_short (x ∷ m) some same = omega (arith, same, long)
 
 -- one event more
-pub one_event_more : (k : ℕ) (events : History) (e : Event) → AllMayFollow k events → MayFollow (count_after k events) e
-    → AllMayFollow k (events ++ e ∷ [])
-one_event_more k [] e all may = (may, tt)
-one_event_more k (a ∷ events) e all may = (all.0, one_event_more (records_with k a) events e all.1 may)
+pub one_event_more : (v k : ℕ) (events : History) (e : Event) → AllMayFollow v k events → MayFollow v (count_after k events) e
+    → AllMayFollow v k (events ++ e ∷ [])
+one_event_more v k [] e all may = (may, tt)
+one_event_more v k (a ∷ events) e all may = (all.0, one_event_more v (records_with k a) events e all.1 may)
 
 texts_more : (events : History) (e : Event) → texts (events ++ e ∷ []) ≡ texts events ++ event_text e
 texts_more [] e = append-nil (event_text e)
@@ -235,8 +254,10 @@ records_more events e =
 
 -- no event's text is empty
 pub some_text : (a : Event) → 0 < length (event_text a)
-some_text (Recorded text Yes) = omega arith
-some_text (Recorded text No) = omega arith
+some_text (Recorded text Yes false) = omega arith
+some_text (Recorded text No false) = omega arith
+some_text (Recorded text Yes true) = omega arith
+some_text (Recorded text No true) = omega arith
 some_text (Committed number) = omega arith
 
 -- the reader stands after the head
@@ -251,15 +272,15 @@ has_none bytes first events rest none is begins =
 
 -- the reader has come one event further
 pub has_more : (bytes : List ℕ) (first : Head) (events : History) (tail : List ℕ) (records : ℕ) (e : Event) (later : List ℕ) → HasEvents bytes first events tail
-    → records ≡ length (records_of events) → records < 2 ^ 64 → event_at records tail ≡ Ok (e, later)
+    → records ≡ length (records_of events) → records < 2 ^ 64 → event_at (version_of first) records tail ≡ Ok (e, later)
     → HasEvents bytes first (events ++ e ∷ []) later × (tail ≡ event_text e ++ later) × (length later < length tail)
 has_more bytes first events tail records e later has count fits found =
-    let s = (event_decides records fits).sound tail (e, later) found in
-    let may : MayFollow (count_after 0 events) e =
-    subst (λ n. MayFollow n e) (count ∙ sym (count_from_none events)) s.0 in (
+    let s = (event_decides (version_of first) records fits).sound tail (e, later) found in
+    let may : MayFollow (version_of first) (count_after 0 events) e =
+    subst (λ n. MayFollow (version_of first) n e) (count ∙ sym (count_from_none events)) s.0 in (
       record {
         is_head = has.is_head;
-        history = one_event_more 0 events e has.history may;
+        history = one_event_more (version_of first) 0 events e has.history may;
         whole =
             has.whole ∙ (ap (λ t. text_under first events ++ t) s.1 ∙ (sym (append_assoc (text_under first events) (event_text e) later)
             ∙ ap (λ t. t ++ later) (append_assoc (head_text first) (texts events) (event_text e)
@@ -271,33 +292,33 @@ has_more bytes first events tail records e later has count fits found =
 
 -- the reader has come to the end
 pub is_journal : (bytes : List ℕ) (first : Head) (events : History) (tail : List ℕ) (records torn : ℕ) → HasEvents bytes first events tail
-    → records ≡ length (records_of events) → records < 2 ^ 64 → event_at records tail ≡ Err Torn → torn ≡ length tail
+    → records ≡ length (records_of events) → records < 2 ^ 64 → event_at (version_of first) records tail ≡ Err Torn → torn ≡ length tail
     → IsJournalOf bytes first events torn
 is_journal bytes first events tail records torn has count fits found is = record {
   tail = tail;
   before = has;
-  is_torn = subst (λ n. IsTorn n tail) count ((event_decides records fits).torn tail found);
+  is_torn = subst (λ n. IsTorn (version_of first) n tail) count ((event_decides (version_of first) records fits).torn tail found);
   torn_bytes = sym is;
 }
 
 -- the reader has come to what is no event
 pub is_bad : (bytes : List ℕ) (first : Head) (events : History) (tail : List ℕ) (records offset : ℕ) → HasEvents bytes first events tail
-    → records ≡ length (records_of events) → records < 2 ^ 64 → event_at records tail ≡ Err Bad → offset + length tail ≡ length bytes
+    → records ≡ length (records_of events) → records < 2 ^ 64 → event_at (version_of first) records tail ≡ Err Bad → offset + length tail ≡ length bytes
     → IsBadAt bytes offset
 is_bad bytes first events tail records offset has count fits found is =
-    let d = event_decides records fits in
+    let d = event_decides (version_of first) records fits in
     record {
       first = first;
       events = events;
       tail = tail;
       before = has;
       at_offset = omega (arith, is, ap length has.whole, length-append (text_under first events) tail);
-      no_event = subst (λ n. ¬ BeginsWithEvent n tail) count
-          (λ b. let there = d.back b.0 b.1 b.2 in let no = sym found ∙ (ap (event_at records) b.3 ∙ there) in cc no);
-      not_torn = subst (λ n. ¬ IsTorn n tail) count (λ b. let no = sym found ∙ d.cut tail b in cc no);
+      no_event = subst (λ n. ¬ BeginsWithEvent (version_of first) n tail) count
+          (λ b. let there = d.back b.0 b.1 b.2 in let no = sym found ∙ (ap (event_at (version_of first) records) b.3 ∙ there) in cc no);
+      not_torn = subst (λ n. ¬ IsTorn (version_of first) n tail) count (λ b. let no = sym found ∙ d.cut tail b in cc no);
     }
 
 -- an event adds one record at most
 pub few_records : (records : ℕ) (e : Event) → records_with records e ≤ records + 1
-few_records records (Recorded text verdict) = omega arith
+few_records records (Recorded text verdict kept) = omega arith
 few_records records (Committed number) = omega arith

@@ -4,6 +4,7 @@ mod DecimalNumbers
 mod Events
 mod Heads
 mod Journals
+mod KeptRecords
 mod Pieces
 mod EachBytes
 pub mod Lent

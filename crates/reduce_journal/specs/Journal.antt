@@ -1,5 +1,5 @@
 -- The bytes of a history, versions 1 and 2.
-use Rattle.std.specs.Prelude.{◌≡◌, ◌≢◌, ℕ, List, [], ◌∷◌, ◌++◌, Option, Some, None, Result, Ok, Err, length, codes, decimal}
+use Rattle.std.specs.Prelude.{◌≡◌, ◌≢◌, ℕ, true, false, Bool, List, [], ◌∷◌, ◌++◌, Option, Some, None, Result, Ok, Err, length, codes, decimal}
 use Rattle.std.specs.List.{flat_map}
 use Rattle.hex.specs.Hex.{IsBytes, encode_lower}
 use Rattle.sha2.specs.Sha256.{sha256}
@@ -14,7 +14,7 @@ use Rattle.reduce_journal.specs.declared.head.Head.TheVariants.{Version1, Versio
 use Rattle.reduce_journal.specs.declared.read.Journal.{Journal}
 use Rattle.reduce_journal.specs.declared.read.JournalFault.{JournalFault}
 use Rattle.reduce_journal.specs.declared.read.JournalFault.TheVariants.{BadHead, BadRecord, Memory}
-use Rattle.reduce_journal.specs.History.{History, IsHistory, records_of, MayFollow}
+use Rattle.reduce_journal.specs.History.{History, records_of, MayFollow, AllMayFollow}
 
 -- a digest has 32 bytes
 abbrev pub IsDigest : Digest → Type 0
@@ -32,14 +32,16 @@ head start = codes "perses-journal 2\nS " ++ (encode_lower start.bytes ++ codes 
 abbrev pub line : List ℕ → ℕ → List ℕ
 line prefix number = prefix ++ (decimal number ++ codes "\n")
 
--- what a record with this verdict begins with
-abbrev pub record_prefix : Verdict → List ℕ
-record_prefix Yes = codes "R y "
-record_prefix No = codes "R n "
+-- what a record with this verdict begins with: R where a gate was asked, K where it was kept
+abbrev pub record_prefix : Bool → Verdict → List ℕ
+record_prefix false Yes = codes "R y "
+record_prefix false No = codes "R n "
+record_prefix true Yes = codes "K y "
+record_prefix true No = codes "K n "
 
 -- the bytes of an event: those of a record are a line with the length of its text in bytes, the text and a newline
 abbrev pub event_text : Event → List ℕ
-event_text (Recorded text verdict) = line (record_prefix verdict) (length text) ++ (text ++ codes "\n")
+event_text (Recorded text verdict kept) = line (record_prefix kept verdict) (length text) ++ (text ++ codes "\n")
 event_text (Committed number) = line (codes "C ") number
 
 -- the bytes of a history, over a start with this digest
@@ -75,12 +77,12 @@ abbrev pub LacksHead : List ℕ → Type 0
 LacksHead bytes = (first : Head) (rest : List ℕ) → IsHead first → bytes ≢ head_text first ++ rest
 
 -- these bytes begin with an event that may come after so many records
-abbrev pub BeginsWithEvent : (records : ℕ) → List ℕ → Type 0
-BeginsWithEvent records bytes = (event : Event) × (rest : List ℕ) × MayFollow records event × (bytes ≡ event_text event ++ rest)
+abbrev pub BeginsWithEvent : (version records : ℕ) → List ℕ → Type 0
+BeginsWithEvent version records bytes = (event : Event) × (rest : List ℕ) × MayFollow version records event × (bytes ≡ event_text event ++ rest)
 
 -- these bytes are nothing, or the beginning of an event that may come after so many records, and not all of it
-abbrev pub IsTorn : (records : ℕ) → List ℕ → Type 0
-IsTorn records bytes = (event : Event) × (rest : List ℕ) × MayFollow records event × (rest ≢ []) × (event_text event ≡ bytes ++ rest)
+abbrev pub IsTorn : (version records : ℕ) → List ℕ → Type 0
+IsTorn version records bytes = (event : Event) × (rest : List ℕ) × MayFollow version records event × (rest ≢ []) × (event_text event ≡ bytes ++ rest)
 
 -- the bytes of a head and of events
 abbrev pub text_under : Head → History → List ℕ
@@ -89,14 +91,14 @@ text_under first events = head_text first ++ flat_map event_text events
 -- these bytes have this head, the events of a history, and then this tail
 pub record HasEvents (bytes : List ℕ) (first : Head) (events : History) (tail : List ℕ) : Type 0 where
   pub is_head : IsHead first
-  pub history : IsHistory events
+  pub history : AllMayFollow (version_of first) 0 events
   pub whole : bytes ≡ text_under first events ++ tail
 
 -- these bytes are a journal of this head and these events, with so many bytes of a torn tail
 pub record IsJournalOf (bytes : List ℕ) (first : Head) (events : History) (torn : ℕ) : Type 0 where
   pub tail : List ℕ
   pub before : HasEvents bytes first events tail
-  pub is_torn : IsTorn (length (records_of events)) tail
+  pub is_torn : IsTorn (version_of first) (length (records_of events)) tail
   pub torn_bytes : length tail ≡ torn
 
 -- after a head and some events, at this offset, there is neither an event, nor the end, nor a torn tail
@@ -106,8 +108,8 @@ pub record IsBadAt (bytes : List ℕ) (offset : ℕ) : Type 0 where
   pub tail : List ℕ
   pub before : HasEvents bytes first events tail
   pub at_offset : offset ≡ length (text_under first events)
-  pub no_event : ¬ BeginsWithEvent (length (records_of events)) tail
-  pub not_torn : ¬ IsTorn (length (records_of events)) tail
+  pub no_event : ¬ BeginsWithEvent (version_of first) (length (records_of events)) tail
+  pub not_torn : ¬ IsTorn (version_of first) (length (records_of events)) tail
 
 -- what is read is this: the version, the start's digest, the events, and the bytes of the torn tail
 pub record IsReadAs (first : Head) (history : History) (bytes : ℕ) (journal : Journal) : Type 0 where

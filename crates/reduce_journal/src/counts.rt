@@ -19,7 +19,7 @@ pub struct Counts {
     pub rounds: u64,
     /// The answers that the reducer was given.
     pub used: u64,
-    /// The verdicts that came, each text once.
+    /// The texts that have a record, asked or kept.
     pub records: u64,
 }
 

@@ -3,14 +3,15 @@
 //! A reduction's history is a list of [`Event`]s: verdicts as they came, and the answers that the
 //! reducer was given. Read `specs/History.antt` and `specs/Journal.antt` first. [`write_head`] begins a
 //! journal, with the [`Digest`] of its start, and [`write_event`] adds to it; [`read_journal`] reads it
-//! back, also where the run that wrote it was killed, and reads version 1 too. [`report`] makes the five
-//! lines that a reduction ends with, and [`first_lines`] the first four of them. Bytes are a journal of one
-//! start and one history at most ([`equal_bytes_have_one_history`]); what a killed run left, with the whole
-//! head, is a journal of its first events ([`prefixes_are_read`]). So a history is kept:
+//! back, also where the run that wrote it was killed, and reads version 1 too. [`Journal::kept`] has its
+//! verdicts, with which a run that resumes it begins. [`report`] makes the five lines that a reduction
+//! ends with, and [`first_lines`] the first four of them. Bytes are a journal of one start and one
+//! history at most ([`equal_bytes_have_one_history`]); what a killed run left, with the whole head, is a
+//! journal of its first events ([`prefixes_are_read`]). So a history is kept:
 //!
 //! ```
 //! write_head(&mut journal, &digest_of(start))?;
-//! write_event(&mut journal, &Event::Recorded { text, verdict })?;
+//! write_event(&mut journal, &Event::Recorded { text, verdict, kept: false })?;
 //! write_event(&mut journal, &Event::Committed { number: 1 })?;
 //! ```
 #![tactic(auto)]

@@ -1,7 +1,7 @@
 //! One event of a journal.
 
 ghost use Rattle.std.specs.Prelude.{◌≡◌, IfOk};
-ghost use Rattle.reduce_journal.specs.inner.Reading.{Gives, commit_at, event_at, lent_event, record_at, text_at, verdict_at};
+ghost use Rattle.reduce_journal.specs.inner.Reading.{Gives, commit_at, event_at, kept_at, lent_event, record_at, text_at, verdict_at};
 
 use crate::event::Event;
 use crate::numbers::{Mismatch, after, number_at, positive_at};
@@ -13,10 +13,16 @@ use std::alloc::Global;
 /// An event whose text lies in the journal.
 #[derive(Clone, Copy)]
 pub(crate) enum LentEvent<'a> {
-    /// A text got its verdict.
-    Recorded { text: &'a [u8], verdict: Verdict },
+    /// A text got its verdict, of a gate or kept.
+    Recorded {
+        text: &'a [u8],
+        verdict: Verdict,
+        kept: bool,
+    },
     /// The reducer was answered with the record of this number.
-    Committed { number: u64 },
+    Committed {
+        number: u64,
+    },
 }
 
 impl LentEvent<'_> {
@@ -25,11 +31,16 @@ impl LentEvent<'_> {
         ensures { IfOk result (λ event. event ≡ lent_event self.now) }
     {
         match self {
-            LentEvent::Recorded { text, verdict } => {
+            LentEvent::Recorded {
+                text,
+                verdict,
+                kept,
+            } => {
                 let text = Bytes::from_slice(alloc, *text)?;
                 Ok(Event::Recorded {
                     text,
                     verdict: *verdict,
+                    kept: *kept,
                 })
             }
             LentEvent::Committed { number } => Ok(Event::Committed { number: *number }),
@@ -37,30 +48,53 @@ impl LentEvent<'_> {
     }
 }
 
-/// The event that these bytes begin with, after so many records, and the bytes after it.
+/// The event that these bytes begin with, after so many records of a journal of this version, and the
+/// bytes after it.
 #[tactic(auto, unfolding(crate::specs::inner::Reading::event_at))]
-pub(crate) fn event_at(records: u64, bytes: &[u8]) -> Result<(LentEvent<'_>, &[u8]), Mismatch>
-    ensures { Gives (λ found. (lent_event found.0, found.1.now)) result (event_at records bytes.now) }
+pub(crate) fn event_at(
+    version: u32,
+    records: u64,
+    bytes: &[u8],
+) -> Result<(LentEvent<'_>, &[u8]), Mismatch>
+    ensures { Gives (λ found. (lent_event found.0, found.1.now)) result (event_at version records bytes.now) }
 {
     match bytes {
         [] => Err(Mismatch::Torn),
-        [b'R', rest @ ..] => record_at(rest),
+        [b'R', rest @ ..] => record_at(false, rest),
         [b'C', rest @ ..] => commit_at(records, rest),
+        [b'K', rest @ ..] => kept_at(version, rest),
         [_, ..] => Err(Mismatch::Bad),
     }
 }
 
-/// The record that these bytes begin with but for its first letter.
+/// The record that these bytes begin with but for its first letter, asked or kept.
 #[tactic(auto, unfolding(crate::specs::inner::Reading::record_at))]
-fn record_at(bytes: &[u8]) -> Result<(LentEvent<'_>, &[u8]), Mismatch>
-    ensures { Gives (λ found. (lent_event found.0, found.1.now)) result (record_at bytes.now) }
+fn record_at(kept: bool, bytes: &[u8]) -> Result<(LentEvent<'_>, &[u8]), Mismatch>
+    ensures { Gives (λ found. (lent_event found.0, found.1.now)) result (record_at kept bytes.now) }
 {
     let letter = after(b' ', bytes)?;
     let (verdict, rest) = verdict_at(letter)?;
     let number = after(b' ', rest)?;
     let (count, rest) = number_at(TEXT_LIMIT as u64, number)?;
     let (text, rest) = text_at(count as usize, rest)?;
-    Ok((LentEvent::Recorded { text, verdict }, rest))
+    let event = LentEvent::Recorded {
+        text,
+        verdict,
+        kept,
+    };
+    Ok((event, rest))
+}
+
+/// The kept record that these bytes begin with but for its first letter, where the version has them.
+#[tactic(auto, unfolding(crate::specs::inner::Reading::kept_at))]
+fn kept_at(version: u32, bytes: &[u8]) -> Result<(LentEvent<'_>, &[u8]), Mismatch>
+    ensures { Gives (λ found. (lent_event found.0, found.1.now)) result (kept_at version bytes.now) }
+{
+    if version == 2 {
+        record_at(true, bytes)
+    } else {
+        Err(Mismatch::Bad)
+    }
 }
 
 /// The commit that these bytes begin with but for its first letter, after so many records.

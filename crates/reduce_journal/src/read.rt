@@ -1,6 +1,7 @@
 //! Reading a journal back.
 
 ghost use Rattle.std.specs.Prelude.{◌≡◌, ◌↔◌, ◌⊎◌, ◌<◌, ◌^◌, ℕ, ◌+◌, ◌++◌, IfOk, IsErrOf};
+ghost use Rattle.verdict_table.specs.Kept.{SameVerdicts};
 ghost use Rattle.reduce_journal.specs.History.{History, IsHistory, records_of, records_with};
 ghost use Rattle.reduce_journal.specs.Journal.{GivesJournal, IsBadAt, IsHead, IsJournalOf, IsReadOf, IsStart, IsStartOf, LacksHead, head_text};
 ghost use Rattle.reduce_journal.specs.inner.Reading.{lent_event};
@@ -13,6 +14,7 @@ use crate::parts::{LentEvent, event_at};
 use faults::Memory;
 use std::alloc::{AllocFailed, Global};
 use thiserror::Error;
+use verdict_table::Kept;
 
 /// What was read of a journal.
 #[derive(Drop)]
@@ -121,11 +123,12 @@ fn read_events(
     ensures head { ¬ IsErrOf result JournalFault.BadHead }
     ensures bad_record { (offset : ℕ) → IsErrOf result (JournalFault.BadRecord offset) → IsBadAt bytes.now offset }
 {
+    let version = head.version();
     let mut events = Vec::new(alloc);
     let mut records = 0;
     let mut rest = after_head;
     loop {
-        match event_at(records, rest) {
+        match event_at(version, records, rest) {
             Ok((event, later)) => {
                 records = records_with(records, &event);
                 events.push(event.to_event(alloc)?)?;
@@ -149,5 +152,22 @@ fn records_with(records: u64, event: &LentEvent<'_>) -> u64
     match event {
         LentEvent::Recorded { .. } => records + 1,
         LentEvent::Committed { .. } => records,
+    }
+}
+
+impl Journal {
+    /// The verdict of each text by its first record, asked or kept. The texts are shared, not copied. It
+    /// costs a look-up for each record.
+    pub fn kept(&self, alloc: Global) -> Result<Kept, Memory>
+        ensures { IfOk result (λ kept. SameVerdicts kept (records_of self.now.events.items)) }
+    {
+        let mut kept = Kept::new(alloc);
+        for event in &self.events {
+            match event {
+                Event::Recorded { text, verdict, .. } => kept.add(text.share()?, *verdict)?,
+                Event::Committed { .. } => {}
+            }
+        }
+        Ok(kept)
     }
 }

@@ -38,48 +38,64 @@ pub fn write_event<J: Sink>(journal: &mut J, event: &Event) -> Result<(), SinkFa
     ensures count { J.faults journal.old ≤ J.faults journal.new }
 {
     match event {
-        Event::Recorded { text, verdict } => write_record(journal, text.as_slice(), *verdict),
+        Event::Recorded {
+            text,
+            verdict,
+            kept,
+        } => write_record(journal, text.as_slice(), *verdict, *kept),
         Event::Committed { number } => put_line(journal, "C ", *number),
     }
 }
 
 /// Puts a record: its line, its text and a newline.
-fn write_record<J: Sink>(journal: &mut J, text: &[u8], verdict: Verdict) -> Result<(), SinkFault>
+fn write_record<J: Sink>(
+    journal: &mut J,
+    text: &[u8],
+    verdict: Verdict,
+    kept: bool,
+) -> Result<(), SinkFault>
     requires { length text.now ≤ text_limit }
     ensures ok { OnOk result (J.put_so_far journal.new
-        ≡ option_map (with_piece (event_text (Event.Recorded text.now verdict))) (J.put_so_far journal.old)) }
+        ≡ option_map (with_piece (event_text (Event.Recorded text.now verdict kept))) (J.put_so_far journal.old)) }
     ensures err { OnErr result
-        (GrewByPrefix (event_text (Event.Recorded text.now verdict)) (J.put_so_far journal.old) (J.put_so_far journal.new)) }
+        (GrewByPrefix (event_text (Event.Recorded text.now verdict kept)) (J.put_so_far journal.old) (J.put_so_far journal.new)) }
     ensures failed { OnErr result (Rose (J.faults journal.old) (J.faults journal.new)) }
     ensures quiet { OnOk result (J.faults journal.new ≡ J.faults journal.old) }
     ensures count { J.faults journal.old ≤ J.faults journal.new }
 {
-    put_record_line(journal, text, verdict)?;
+    put_record_line(journal, text, verdict, kept)?;
     journal.put(text)?;
     journal.put(b"\n")
 }
 
 /// Puts the line of a record of this text, in one put.
-fn put_record_line<J: Sink>(journal: &mut J, text: &[u8], verdict: Verdict) -> Result<(), SinkFault>
+fn put_record_line<J: Sink>(
+    journal: &mut J,
+    text: &[u8],
+    verdict: Verdict,
+    kept: bool,
+) -> Result<(), SinkFault>
     ensures ok { OnOk result (J.put_so_far journal.new
-        ≡ option_map (with_piece (line (record_prefix verdict) (length text.now))) (J.put_so_far journal.old)) }
+        ≡ option_map (with_piece (line (record_prefix kept verdict) (length text.now))) (J.put_so_far journal.old)) }
     ensures err { OnErr result
-        (GrewByPrefix (line (record_prefix verdict) (length text.now)) (J.put_so_far journal.old) (J.put_so_far journal.new)) }
+        (GrewByPrefix (line (record_prefix kept verdict) (length text.now)) (J.put_so_far journal.old) (J.put_so_far journal.new)) }
     ensures failed { OnErr result (Rose (J.faults journal.old) (J.faults journal.new)) }
     ensures quiet { OnOk result (J.faults journal.new ≡ J.faults journal.old) }
     ensures count { J.faults journal.old ≤ J.faults journal.new }
 {
-    put_line(journal, prefix_of(verdict), text.len() as u64)
+    put_line(journal, prefix_of(verdict, kept), text.len() as u64)
 }
 
-/// What a record with this verdict begins with.
-fn prefix_of(verdict: Verdict) -> &'static str
-    ensures prefix { result.now ≡ record_prefix verdict }
+/// What a record with this verdict begins with: asked, or kept.
+fn prefix_of(verdict: Verdict, kept: bool) -> &'static str
+    ensures prefix { result.now ≡ record_prefix kept verdict }
     ensures short { length result.now ≤ 4 }
 {
-    match verdict {
-        Verdict::Yes => "R y ",
-        Verdict::No => "R n ",
+    match (kept, verdict) {
+        (false, Verdict::Yes) => "R y ",
+        (false, Verdict::No) => "R n ",
+        (true, Verdict::Yes) => "K y ",
+        (true, Verdict::No) => "K n ",
     }
 }
 

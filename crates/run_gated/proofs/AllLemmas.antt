@@ -1,14 +1,19 @@
 -- What a run of all workers is to its caller: of one worker, or of several.
 use Rattle.std.proofs.Common.{arith, ◌≡◌, ◌≢◌, ◌≤◌, ◌<◌, ◌++◌, inl, inr, ℕ, suc, List, [], ◌∷◌, Option, Some, None, IfSome}
-use Rattle.std.proofs.Common.{length, map, option_map, slice_index_or, sum, refl, sym, ap, ◌∙◌, subst}
+use Rattle.std.proofs.Common.{true, false, length, map, option_map, slice_index_or, sum, refl, sym, ap, ◌∙◌, subst}
 use Rattle.std.specs.List.{range_with_len}
 use Rattle.edge_io.specs.Sink.{Put}
 use Rattle.script_gate_trait.specs.declared.gate.Verdict.{Verdict}
 use Rattle.script_gate_trait.specs.declared.log.Log.{Log}
 use Rattle.reduce_step.specs.Plan.{Plan}
+use Rattle.verdict_table.specs.declared.record.Record.{Record}
+use Rattle.verdict_table.specs.TableState.{verdict_in}
+use Rattle.reduce_journal.specs.declared.event.Event.{Event}
+use Rattle.reduce_journal.specs.declared.event.Event.TheVariants.{Committed, Recorded}
 use Rattle.reduce_journal.specs.History.{History}
 use Rattle.reduce_journal.specs.declared.digest.Digest.{Digest}
 use Rattle.reduce_journal.specs.Journal.{journal_text}
+use Rattle.ordered_commit_moves.specs.Moves.{KeptVerdicts}
 use Rattle.ordered_commit.specs.declared.fault.PoolFault.{PoolFault}
 use Rattle.ordered_commit.specs.declared.fault.PoolFault.TheVariants.{Script, Journal, Memory}
 use Rattle.ordered_commit.specs.declared.fault.BoardFault.{BoardFault}
@@ -16,7 +21,8 @@ use Rattle.ordered_commit.specs.declared.fault.BoardFault.TheVariants as board
 use Rattle.ordered_commit.specs.declared.outcome.Outcome.{Outcome}
 use Rattle.ordered_commit.specs.BoardState.{BoardState}
 use Rattle.ordered_commit.specs.Faults.{board_fault}
-use Rattle.ordered_commit.specs.Kept.{BrokeOff, IsJournal}
+use Rattle.ordered_commit.specs.Made.{IsRefusedWith}
+use Rattle.ordered_commit.specs.Kept.{BrokeWhereDue, IsDue, IsJournal}
 use Rattle.run_worker.specs.RunHistory.{with_all_asked}
 use Rattle.run_worker.specs.RunEnds.{HasSameName, HasWritten}
 use Rattle.run_worker.specs.inner.RunEnds.{JournalEnds}
@@ -27,7 +33,7 @@ use Rattle.worker_pool.specs.Ends.{AreDone, IsOfOne, IsOutcome}
 use Rattle.worker_pool.specs.Runs.{members}
 use Rattle.run_gated.specs.Records.{AreAsked, all_asked}
 use Rattle.run_gated.specs.Seen.{AreQuiet, CallFailed, GateFailed, IsQuiet, Reached, SeenGate, logs_of, reached, seen, seen_gates}
-use Rattle.run_gated.specs.Workers.{AreIdle, BrokeBy}
+use Rattle.run_gated.specs.Workers.{AreIdle, BrokeBy, IsOfKept}
 use Rattle.run_gated.specs.inner.Workers.{IsCausedBy, IsQuietBut, IsRunBy, JournalLeft, WaitsAt}
 use Rattle.run_gated.proofs.ShareLemmas.{all_quiet}
 use Rattle.run_gated.proofs.PoolLemmas.{named_failed, none_failed, several_asked}
@@ -73,29 +79,46 @@ quiet_but : (fault : BoardFault) (gates : List SeenGate) → IsQuietBut (Some (b
 quiet_but board.Journal gates = refl
 quiet_but board.Memory gates = refl
 
-nothing_ran : (workers : ℕ) (may_say : List ℕ → Verdict → Type 0) (first last : Plan) (fault : BoardFault) (gates : List SeenGate)
-    → IsRunBy workers may_say first last (Some (board_fault fault)) [] gates gates
-nothing_ran workers may_say first last fault gates = record {
-  history_of = none_history may_say first [] refl;
+nothing_ran : (workers : ℕ) (may_say : List ℕ → Verdict → Type 0) (kept : KeptVerdicts) (first last : Plan) (fault : BoardFault) (gates : List SeenGate)
+    → IsRunBy workers may_say kept first last (Some (board_fault fault)) [] gates gates
+nothing_ran workers may_say kept first last fault gates = record {
+  history_of = none_history may_say kept first [] refl;
   start = λ _. (tt, tt);
   asked = nothing_asked (logs_of gates);
   ended = λ none. absurd (cc none);
   alone =
       λ _. record {
-        sequential = none_sequential fault first (Some (board_fault fault)) [] refl refl;
+        sequential = none_sequential fault kept first (Some (board_fault fault)) [] refl refl;
         waits = waits_at fault first;
         quiet = quiet_but fault gates;
       };
 }
 
 -- a run without a board
-pub refused_ran : (workers : ℕ) (may_say : List ℕ → Verdict → Type 0) (first last : Plan) (refused : BoardFault) (fault : Option PoolFault) (history : History)
-    (gates : List SeenGate) → fault ≡ Some (board_fault refused) → history ≡ []
-    → IsRunBy workers may_say first last fault history gates gates
-refused_ran workers may_say first last refused fault history gates is none =
-    subst (λ (f : Option PoolFault). IsRunBy workers may_say first last f history gates gates) (sym is)
-    (subst (λ (h : History). IsRunBy workers may_say first last (Some (board_fault refused)) h gates gates) (sym none)
-    (nothing_ran workers may_say first last refused gates))
+pub refused_ran : (workers : ℕ) (may_say : List ℕ → Verdict → Type 0) (kept : KeptVerdicts) (first last : Plan) (refused : BoardFault)
+    (fault : Option PoolFault) (history : History) (gates : List SeenGate) → fault ≡ Some (board_fault refused) → history ≡ []
+    → IsRunBy workers may_say kept first last fault history gates gates
+refused_ran workers may_say kept first last refused fault history gates is none =
+    subst (λ (f : Option PoolFault). IsRunBy workers may_say kept first last f history gates gates) (sym is)
+    (subst (λ (h : History). IsRunBy workers may_say kept first last (Some (board_fault refused)) h gates gates) (sym none)
+    (nothing_ran workers may_say kept first last refused gates))
+
+left_at : {J : Type 0} (put_so_far : J → Option Put) (workers : ℕ) (start : Digest) (kept : KeptVerdicts) (refused : BoardFault) (old new : J)
+    → IsRefusedWith put_so_far start refused old new → HasSameName (put_so_far old) (put_so_far new)
+    → JournalLeft workers start kept (Some (board_fault refused)) [] (put_so_far old) (put_so_far new)
+left_at put_so_far workers start kept board.Journal old new is same = (same, inl (refl, is))
+left_at put_so_far workers start kept board.Memory old new is same = inr (refl, ap put_so_far is)
+
+-- the journal of a run without a board
+pub refused_left : {J : Type 0} (put_so_far : J → Option Put) (workers : ℕ) (start : Digest) (kept : KeptVerdicts) (refused : BoardFault)
+    (fault : Option PoolFault) (history : History) (old new last : J) → fault ≡ Some (board_fault refused) → history ≡ [] → last ≡ new
+    → IsRefusedWith put_so_far start refused old new → HasSameName (put_so_far old) (put_so_far new)
+    → JournalLeft workers start kept fault history (put_so_far old) (put_so_far last)
+refused_left put_so_far workers start kept refused fault history old new last by none same is named =
+    subst (λ (f : Option PoolFault). JournalLeft workers start kept f history (put_so_far old) (put_so_far last)) (sym by)
+    (subst (λ (h : History). JournalLeft workers start kept (Some (board_fault refused)) h (put_so_far old) (put_so_far last)) (sym none)
+    (subst (λ j. JournalLeft workers start kept (Some (board_fault refused)) [] (put_so_far old) (put_so_far j)) (sym same)
+    (left_at put_so_far workers start kept refused old new is named)))
 
 -- the journal, which was empty, has the whole history
 written : (start : Digest) (history : History) (old new : Option Put) → HasSameName old new → IfSome old (λ put. put.bytes ≡ [])
@@ -110,24 +133,34 @@ written start history (Some old) (Some new) same empty bytes =
     ap (λ (b : List ℕ). Some (put_of b new.name)) (bytes ∙ ap (λ (b : List ℕ). b ++ journal_text start history) (sym empty))
     ∙ ap (λ (n : List ℕ). Some (put_of (old.bytes ++ journal_text start history) n)) name
 
-one_ends : (start : Digest) (fault : Option PoolFault) (history : History) (old new : Option Put) → HasSameName old new → IfSome old (λ put. put.bytes ≡ [])
-    → IfSome new (λ put. AreJournalBytes start fault history put.bytes) → JournalEnds start fault history old new
-one_ends start None history old new same empty bytes = written start history old new same empty bytes
-one_ends start (Some (Script worker)) history old new same empty bytes = written start history old new same empty bytes
-one_ends start (Some Journal) history old new same empty bytes = (same, inr bytes)
-one_ends start (Some Memory) history old new same empty bytes = inl (written start history old new same empty bytes)
+one_ends : (start : Digest) (kept : KeptVerdicts) (fault : Option PoolFault) (history : History) (old new : Option Put) → HasSameName old new
+    → IfSome old (λ put. put.bytes ≡ []) → IfSome new (λ put. AreJournalBytes start kept fault history put.bytes)
+    → JournalEnds start kept fault history old new
+one_ends start kept None history old new same empty bytes = written start history old new same empty bytes
+one_ends start kept (Some (Script worker)) history old new same empty bytes = written start history old new same empty bytes
+one_ends start kept (Some Journal) history old new same empty bytes = (same, inr bytes)
+one_ends start kept (Some Memory) history old new same empty bytes = inl (written start history old new same empty bytes)
 
-broke_by : (workers : ℕ) (start : Digest) (history : History) (new : Option Put) → workers ≢ 1 → IfSome new (λ put. BrokeOff start history put.bytes)
-    → IfSome new (λ put. BrokeBy workers start history put.bytes)
-broke_by workers start history None several broke = tt
-broke_by workers start history (Some put) several broke = (λ one. absurd (several one), λ _. broke)
+of_kept : (first : Plan) (kept : List Record) (before : History) (failed : Event) → IsDue first kept before failed → IsOfKept (verdict_in kept) failed
+of_kept first kept before (Committed number) due = tt
+of_kept first kept before (Recorded text verdict true) due = due.1
+of_kept first kept before (Recorded text verdict false) due = tt
 
-several_left : (workers : ℕ) (start : Digest) (fault : Option PoolFault) (history : History) (old new : Option Put) → workers ≢ 1 → HasSameName old new
-    → IfSome old (λ put. put.bytes ≡ []) → IfSome new (λ put. IsJournal start fault history put.bytes) → JournalLeft workers start fault history old new
-several_left workers start None history old new several same empty bytes = written start history old new same empty bytes
-several_left workers start (Some (Script worker)) history old new several same empty bytes = written start history old new same empty bytes
-several_left workers start (Some Journal) history old new several same empty bytes = (same, inr (broke_by workers start history new several bytes))
-several_left workers start (Some Memory) history old new several same empty bytes = inl (written start history old new same empty bytes)
+broke_by : (workers : ℕ) (first : Plan) (start : Digest) (kept : List Record) (history : History) (new : Option Put) → workers ≢ 1
+    → IfSome new (λ put. BrokeWhereDue first start kept history put.bytes) → IfSome new (λ put. BrokeBy workers start (verdict_in kept) history put.bytes)
+broke_by workers first start kept history None several broke = tt
+broke_by workers first start kept history (Some put) several broke =
+    (λ one. absurd (several one), λ _. (broke.broke, of_kept first kept broke.broke.before broke.broke.failed broke.due))
+
+several_left : (workers : ℕ) (first : Plan) (start : Digest) (kept : List Record) (fault : Option PoolFault) (history : History) (old new : Option Put)
+    → workers ≢ 1 → HasSameName old new → IfSome old (λ put. put.bytes ≡ []) → IfSome new (λ put. IsJournal start fault history put.bytes)
+    → (fault ≡ Some Journal → IfSome new (λ put. BrokeWhereDue first start kept history put.bytes))
+    → JournalLeft workers start (verdict_in kept) fault history old new
+several_left workers first start kept None history old new several same empty bytes due = written start history old new same empty bytes
+several_left workers first start kept (Some (Script worker)) history old new several same empty bytes due = written start history old new same empty bytes
+several_left workers first start kept (Some Journal) history old new several same empty bytes due =
+    (same, inr (broke_by workers first start kept history new several (due refl)))
+several_left workers first start kept (Some Memory) history old new several same empty bytes due = inl (written start history old new same empty bytes)
 
 -- why several ended
 several_caused : (fault : Option PoolFault) (old new : Reached) → (fault ≡ None → AreQuiet old.gates new.gates)
@@ -153,14 +186,15 @@ module _ {S J G : Type 0} (plan first : S → Plan) (may_say : List ℕ → Verd
   ByEach old new = AreDone log faults outcome.fault outcome.events.items old new
 
   all_ran : (old new : List (Worker G)) → 1 ≤ length old → OfAll old → ByEach old new → OfOne old new
-      → IsRunBy (length old) may_say (first made.front) (plan outcome.front) outcome.fault outcome.events.items (seen_gates log faults old)
-      (seen_gates log faults new)
+      → IsRunBy (length old) may_say (verdict_in made.kept) (first made.front) (plan outcome.front) outcome.fault outcome.events.items
+      (seen_gates log faults old) (seen_gates log faults new)
   all_ran [] new some is done one = absurd (omega (arith, some))
   all_ran (x ∷ []) [] some is done one = let lengths = done.lengths in absurd (omega (arith, lengths))
   all_ran (x ∷ []) (y ∷ y' ∷ new) some is done one = let lengths = done.lengths in absurd (omega (arith, lengths))
   all_ran (x ∷ []) (y ∷ []) some is done one =
       let alone = one refl x in
-      one_ran may_say (first made.front) (plan outcome.front) outcome.fault outcome.events.items (seen log faults x.gate) (seen log faults y.gate)
+      one_ran may_say (verdict_in made.kept) (first made.front) (plan outcome.front) outcome.fault outcome.events.items (seen log faults x.gate)
+      (seen log faults y.gate)
       (journal_faults made.journal) (journal_faults outcome.journal) is.history alone.sequential alone.begun alone.one alone.asked alone.ended is.replayed
       alone.caused
   all_ran (x ∷ x' ∷ old) new some is done one = record {
@@ -190,16 +224,17 @@ module _ {S J G : Type 0} (plan first : S → Plan) (may_say : List ℕ → Verd
 
   all_left : (old new : List (Worker G)) → 1 ≤ length old → OfAll old → ByEach old new → OfOne old new → (put : Option Put)
       → HasSameName put (put_so_far made.journal) → IfSome put (λ p. p.bytes ≡ [])
-      → JournalLeft (length old) made.start outcome.fault outcome.events.items put (put_so_far outcome.journal)
+      → JournalLeft (length old) made.start (verdict_in made.kept) outcome.fault outcome.events.items put (put_so_far outcome.journal)
   all_left [] new some is done one put named empty = absurd (omega (arith, some))
   all_left (x ∷ []) new some is done one put named empty =
       let alone =
       one refl x in
-      one_left made.start outcome.fault outcome.events.items put (put_so_far outcome.journal)
-      (one_ends made.start outcome.fault outcome.events.items put (put_so_far outcome.journal) (is.same_name ∙ named) empty alone.journal)
+      one_left made.start (verdict_in made.kept) outcome.fault outcome.events.items put (put_so_far outcome.journal)
+      (one_ends made.start (verdict_in made.kept) outcome.fault outcome.events.items put (put_so_far outcome.journal) (is.same_name ∙ named) empty
+      alone.journal)
   all_left (x ∷ x' ∷ old) new some is done one put named empty =
-      several_left (length (x ∷ x' ∷ old)) made.start outcome.fault outcome.events.items put (put_so_far outcome.journal) (λ e. omega (arith, e))
-      (is.same_name ∙ named) empty is.journal
+      several_left (length (x ∷ x' ∷ old)) (first made.front) made.start made.kept outcome.fault outcome.events.items put (put_so_far outcome.journal)
+      (λ e. omega (arith, e)) (is.same_name ∙ named) empty is.journal is.due
 
   -- the workers are as they were, but for their gates
   pub idle_again : (old new : List (Worker G)) → AreIdle old → ByEach old new → AreIdle new
@@ -217,13 +252,16 @@ module _ {S J G : Type 0} (plan first : S → Plan) (may_say : List ℕ → Verd
       }
 
   -- of a reducer that the board was made over, and a journal that it began
-  module _ (front : S) (same : made.front ≡ front) (old new : List (Worker G)) (idle : AreIdle old) (is : OfAll old) (done : ByEach old new)
+  module _ (front : S) (same : made.front ≡ front) (kept : List Record) (same_kept : made.kept ≡ kept) (old new : List (Worker G))
+      (idle : AreIdle old) (is : OfAll old) (done : ByEach old new)
       (one : OfOne old new) where
-    pub ran : IsRunBy (length old) may_say (first front) (plan outcome.front) outcome.fault outcome.events.items (seen_gates log faults old)
+    pub ran : IsRunBy (length old) may_say (verdict_in kept) (first front) (plan outcome.front) outcome.fault outcome.events.items (seen_gates log faults old)
         (seen_gates log faults new)
     ran =
-        run_from (length old) may_say (first made.front) (first front) (plan outcome.front) outcome.fault outcome.events.items (seen_gates log faults old)
-        (seen_gates log faults new) (ap first same) (all_ran old new idle.some is done one)
+        subst (λ (rs : List Record). IsRunBy (length old) may_say (verdict_in rs) (first front) (plan outcome.front) outcome.fault outcome.events.items
+        (seen_gates log faults old) (seen_gates log faults new)) same_kept
+        (run_from (length old) may_say (verdict_in made.kept) (first made.front) (first front) (plan outcome.front) outcome.fault outcome.events.items
+        (seen_gates log faults old) (seen_gates log faults new) (ap first same) (all_ran old new idle.some is done one))
 
     pub caused : (shown : Option Put) (count : ℕ) → journal_faults made.journal ≡ count
         → IsCausedBy outcome.fault (record { gates = seen_gates log faults old; journal = record { shown = shown; faults = count } })
@@ -234,7 +272,9 @@ module _ {S J G : Type 0} (plan first : S → Plan) (may_say : List ℕ → Verd
         (all_caused shown old new idle.some is done one)
 
     pub left : (start : Digest) → made.start ≡ start → (put : Option Put) → HasSameName put (put_so_far made.journal) → IfSome put (λ p. p.bytes ≡ [])
-        → JournalLeft (length old) start outcome.fault outcome.events.items put (put_so_far outcome.journal)
+        → JournalLeft (length old) start (verdict_in kept) outcome.fault outcome.events.items put (put_so_far outcome.journal)
     left start digest put named empty =
-        subst (λ (d : Digest). JournalLeft (length old) d outcome.fault outcome.events.items put (put_so_far outcome.journal)) digest
-        (all_left old new idle.some is done one put named empty)
+        subst (λ (rs : List Record). JournalLeft (length old) start (verdict_in rs) outcome.fault outcome.events.items put (put_so_far outcome.journal))
+        same_kept
+        (subst (λ (d : Digest). JournalLeft (length old) d (verdict_in made.kept) outcome.fault outcome.events.items put (put_so_far outcome.journal)) digest
+        (all_left old new idle.some is done one put named empty))

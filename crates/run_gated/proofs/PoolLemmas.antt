@@ -3,7 +3,7 @@ use Rattle.std.proofs.Common.{◌≡◌, ◌≢◌, ◌-◌, ◌<◌, ◌∙◌,
 use Rattle.std.proofs.lemmas.List.{length-map}
 use Rattle.script_gate_trait.specs.declared.log.Log.{Log}
 use Rattle.verdict_table.specs.TableState.{texts_of}
-use Rattle.reduce_journal.specs.History.{History, records_of}
+use Rattle.reduce_journal.specs.History.{History, asked_records_of}
 use Rattle.ordered_commit.specs.declared.fault.PoolFault.{PoolFault}
 use Rattle.ordered_commit.specs.declared.fault.PoolFault.TheVariants.{Script}
 use Rattle.worker_pool.specs.Ends.{AreDone}
@@ -36,20 +36,22 @@ module _ {G : Type 0} (log : G → Option Log) (faults : G → ℕ) (fault : Opt
       let one = done.each i d within in
       record { texts = one.answered.texts; counted = one.answered.counted; answered = one.answered.answered })
 
-  -- the asks of several workers are as many as the records
-  asked_by : length old ≢ 1 → AreAsked (texts_of (records_of history)) (worker_logs log old) (worker_logs log new)
+  -- the asks of several workers are as many as the records that aren't kept
+  asked_by : length old ≢ 1 → AreAsked (texts_of (asked_records_of history)) (worker_logs log old) (worker_logs log new)
   asked_by several = record {
     shares = shares.shares;
     one_each = shares.one_each;
-    total = ap sum shares.counted ∙ done.total ∙ sym (length-map (records_of history) (λ r. r.text));
+    total = ap sum shares.counted ∙ done.total ∙ sym (length-map (asked_records_of history) (λ r. r.text));
     alone = λ one. absurd (several (sym (length-map old (λ (w : Worker G). log w.gate)) ∙ one));
     asked = shares.asked;
   }
 
-  pub several_asked : length old ≢ 1 → AreAsked (texts_of (records_of history)) (logs_of (seen_gates log faults old)) (logs_of (seen_gates log faults new))
+  pub several_asked : length old ≢ 1
+      → AreAsked (texts_of (asked_records_of history)) (logs_of (seen_gates log faults old)) (logs_of (seen_gates log faults new))
   several_asked several =
-      subst (λ (ls : List (Option Log)). AreAsked (texts_of (records_of history)) ls (logs_of (seen_gates log faults new))) (sym (logs_seen log faults old))
-      (subst (λ (ls : List (Option Log)). AreAsked (texts_of (records_of history)) (worker_logs log old) ls) (sym (logs_seen log faults new))
+      subst (λ (ls : List (Option Log)). AreAsked (texts_of (asked_records_of history)) ls (logs_of (seen_gates log faults new)))
+      (sym (logs_seen log faults old))
+      (subst (λ (ls : List (Option Log)). AreAsked (texts_of (asked_records_of history)) (worker_logs log old) ls) (sym (logs_seen log faults new))
       (asked_by several))
 
   -- the gate of the worker that is named failed

@@ -18,7 +18,8 @@ use Rattle.reduce_rounds.specs.RoundsPlan.{plan_first}
 use Rattle.reduce_rounds.specs.Laws.{AsksCandidates, EndsMinimal, IsTextOf, IsTheReduction, RefusesAtNo, result_of}
 use Rattle.reduce_rounds.specs.Verdicts.{HasVerdicts, says_yes}
 use Rattle.reduce_journal.specs.declared.digest.Digest.{Digest}
-use Rattle.reduce_journal.specs.History.{History, records_of}
+use Rattle.reduce_journal.specs.History.{History, asked_records_of, records_of}
+use Rattle.ordered_commit_moves.specs.Moves.{KeptVerdicts}
 use Rattle.ordered_commit_moves.specs.Replay.{replay}
 use Rattle.ordered_commit.specs.declared.fault.PoolFault.{PoolFault}
 use Rattle.ordered_commit.specs.declared.fault.PoolFault.TheVariants as pool
@@ -87,7 +88,7 @@ module _ {T : Type 0} (mode : RoundMode T) where
   start_known V has = has.0
 
   module _ (run : Run) (may_say : List ℕ → Verdict → Type 0) (last : Plan) (fault : Option PoolFault)
-      (ran : IsRunBy run.workers may_say (plan_first mode) last fault run.history run.before.gates run.after.gates) where
+      (ran : IsRunBy run.workers may_say (verdict_in run.kept) (plan_first mode) last fault run.history run.before.gates run.after.gates) where
     abbrev records : List Record
     records = records_of run.history
 
@@ -99,7 +100,7 @@ module _ {T : Type 0} (mode : RoundMode T) where
 
     -- what may be asked of a listed start is the text of a state that is kept
     pub are_of_mode : (Kept : T → Type 0) → AsksCandidates mode Kept → Keeps mode Kept → mode.is_listed mode.start ≡ true
-        → AreOfMode run.workers mode Kept run.history
+        → AreOfMode run.workers (verdict_in run.kept) mode Kept run.history
     are_of_mode Kept law keeps listed =
         record {
           legal = ran.history_of.legal;
@@ -109,14 +110,14 @@ module _ {T : Type 0} (mode : RoundMode T) where
               (λ r may_ask. law keeps listed r.text may_ask) records ran.history_of.may_ask;
           first = begins;
           ends_at_no = only_no records one;
-          sequential = λ alone. has_beginning fault (plan_first mode) run.history (ran.alone alone).sequential;
+          sequential = λ alone. has_beginning (verdict_in run.kept) fault (plan_first mode) run.history (ran.alone alone).sequential;
         }
 
     module _ (follows : (V : List ℕ → Option Verdict) → IsTheReduction (plan_first mode) (recursion_of mode) V)
         (refuses : RefusesAtNo (plan_first mode) (recursion_of mode)) where
       module _ (result : StepResult) (ended : HasEnded last) (followed : last ≡ follow (verdict_in records) (plan_first mode))
           (replayed : last ≡ replay (plan_first mode) run.history) (found : last ≡ End result)
-          (whole : run.workers ≡ 1 → run.history ≡ own_history (plan_first mode) run.history) where
+          (whole : run.workers ≡ 1 → run.history ≡ own_history (verdict_in run.kept) (plan_first mode) run.history) where
         has : IsDefinedOver mode records
         has = (follows (verdict_in records)).defined (subst HasEnded followed ended)
 
@@ -146,7 +147,7 @@ module _ {T : Type 0} (mode : RoundMode T) where
 
         -- the reducer's result is that of the reduction, unless it refused the start
         reduces_in : (Kept : T → Type 0) → EndsMinimal mode Kept (λ state other. IsTriedAtNo (mode.round state) other) → result.refused ≡ false
-            → ReducesIn run.workers mode Kept run.history result
+            → ReducesIn run.workers (verdict_in run.kept) mode Kept run.history result
         reduces_in Kept minimal stays =
             let interesting : (reduction_over mode records).refused ≡ false = sym refused_is ∙ stays in
             record {
@@ -179,15 +180,15 @@ module _ {T : Type 0} (mode : RoundMode T) where
         λ has. not_ended (follow (verdict_in records) (plan_first mode)) waiting (ap asked ((follows (verdict_in records)).ends has)),
       )
 
-      unfinished : WaitsAt (Some (pool.Script 1)) (plan_first mode) run.history → run.history ≡ own_history (plan_first mode) run.history
-          → IsUnfinishedIn mode run.history
+      unfinished : WaitsAt (Some (pool.Script 1)) (plan_first mode) run.history
+          → run.history ≡ own_history (verdict_in run.kept) (plan_first mode) run.history → IsUnfinishedIn (verdict_in run.kept) mode run.history
       unfinished waits whole = let both = unanswered waits in (both.0, both.1, whole)
 
 -- how a run ends with a fault
 with_fault : {T : Type 0} (mode : RoundMode T) → ((V : List ℕ → Option Verdict) → IsTheReduction (plan_first mode) (recursion_of mode) V)
     → RefusesAtNo (plan_first mode) (recursion_of mode)
     → (Kept : T → Type 0) (run : Run) (may_say : List ℕ → Verdict → Type 0) (last : Plan) (fault : PoolFault)
-    → IsRunBy run.workers may_say (plan_first mode) last (Some fault) run.history run.before.gates run.after.gates
+    → IsRunBy run.workers may_say (verdict_in run.kept) (plan_first mode) last (Some fault) run.history run.before.gates run.after.gates
     → IsCausedBy (Some fault) run.before run.after → RunEndsIn mode Kept run (Err (fault_kept fault))
 with_fault mode follows refuses Kept run may_say last (pool.Script worker) ran caused = (
   caused.0,
@@ -202,7 +203,8 @@ with_fault mode follows refuses Kept run may_say last pool.Memory ran caused = (
 pub run_ends : {T : Type 0} (mode : RoundMode T) → ((V : List ℕ → Option Verdict) → IsTheReduction (plan_first mode) (recursion_of mode) V)
     → RefusesAtNo (plan_first mode) (recursion_of mode) → (Kept : T → Type 0) → EndsMinimal mode Kept (λ state other. IsTriedAtNo (mode.round state) other)
     → (run : Run) (may_say : List ℕ → Verdict → Type 0) (last : Plan) (fault : Option PoolFault) (result : StepResult) (answer : Result Reduced RunFault)
-    → IsRunBy run.workers may_say (plan_first mode) last fault run.history run.before.gates run.after.gates → (fault ≡ None → HasEnded last → last ≡ End result)
+    → IsRunBy run.workers may_say (verdict_in run.kept) (plan_first mode) last fault run.history run.before.gates run.after.gates
+    → (fault ≡ None → HasEnded last → last ≡ End result)
     → IsCausedBy fault run.before run.after
     → AnswersFor fault result (mode.size mode.start) (length (mode.text mode.start)) (length (records_of run.history)) answer → RunEndsIn mode Kept run answer
 run_ends mode follows refuses Kept minimal run may_say last (Some fault) result answer ran found caused is =
@@ -213,15 +215,17 @@ run_ends mode follows refuses Kept minimal run may_say last None result answer r
     (λ alone. (ran.alone alone).sequential) Kept minimal caused answer is
 
 -- the same run by another name of what was done first
-pub run_from : (workers : ℕ) (may_say : List ℕ → Verdict → Type 0) (first first' last : Plan) (fault : Option PoolFault) (history : History)
-    (old new : List SeenGate)
-    → first ≡ first' → IsRunBy workers may_say first last fault history old new → IsRunBy workers may_say first' last fault history old new
-run_from workers may_say first first' last fault history old new same ran = subst (λ (p : Plan). IsRunBy workers may_say p last fault history old new) same ran
+pub run_from : (workers : ℕ) (may_say : List ℕ → Verdict → Type 0) (kept : KeptVerdicts) (first first' last : Plan) (fault : Option PoolFault)
+    (history : History) (old new : List SeenGate) → first ≡ first' → IsRunBy workers may_say kept first last fault history old new
+    → IsRunBy workers may_say kept first' last fault history old new
+run_from workers may_say kept first first' last fault history old new same ran =
+    subst (λ (p : Plan). IsRunBy workers may_say kept p last fault history old new) same ran
 
 -- what the journal has, by the fault, by what is answered
 pub journal_has : (run : Run) (fault : Option PoolFault) (result : StepResult) (units bytes record_count : ℕ) (answer : Result Reduced RunFault)
     → AnswersFor fault result units bytes record_count answer
-    → JournalLeft run.workers run.start fault run.history run.before.journal.shown run.after.journal.shown → IsCausedBy fault run.before run.after
+    → JournalLeft run.workers run.start (verdict_in run.kept) fault run.history run.before.journal.shown run.after.journal.shown
+    → IsCausedBy fault run.before run.after
     → JournalHas run answer
 journal_has run None result units bytes record_count (Ok reduced) is ends caused = (ends, caused.journal)
 journal_has run None result units bytes record_count (Err run_fault.NotInteresting) is ends caused = (ends, caused.journal)
@@ -264,39 +268,41 @@ has_ended : (fault : Option PoolFault) (first last : Plan) (history : History) �
 has_ended None first last history ends replayed none = (ends.0, ends.1, replayed none)
 has_ended (Some fault) first last history ends replayed none = absurd (cc none)
 
-pub one_ran : (may_say : List ℕ → Verdict → Type 0) (first last : Plan) (fault : Option PoolFault) (history : History) (gate gate' : SeenGate)
-    (journal journal' : ℕ) → IsHistoryOf may_say first history → IsSequential fault first history → BeginsWith first (records_of history)
-    → EndsAtFirst first (records_of history)
-    → gate'.shown ≡ option_map (with_all_asked (texts_of (records_of history))) gate.shown → ReducerEnds fault first last (records_of history)
+pub one_ran : (may_say : List ℕ → Verdict → Type 0) (kept : KeptVerdicts) (first last : Plan) (fault : Option PoolFault) (history : History)
+    (gate gate' : SeenGate) (journal journal' : ℕ) → IsHistoryOf may_say kept first history → IsSequential kept fault first history
+    → BeginsWith first (records_of history) → EndsAtFirst first (records_of history)
+    → gate'.shown ≡ option_map (with_all_asked (texts_of (asked_records_of history))) gate.shown → ReducerEnds fault first last (records_of history)
     → (fault ≡ None → last ≡ replay first history) → IsCaused fault gate.faults gate'.faults journal journal'
-    → IsRunBy 1 may_say first last fault history (gate ∷ []) (gate' ∷ [])
-one_ran may_say first last fault history gate gate' journal journal' of sequential begun one asked ends replayed caused =
+    → IsRunBy 1 may_say kept first last fault history (gate ∷ []) (gate' ∷ [])
+one_ran may_say kept first last fault history gate gate' journal journal' of sequential begun one asked ends replayed caused =
     record {
       history_of = of;
       start = λ _. (begun, one);
-      asked = one_asked (texts_of (records_of history)) gate.shown gate'.shown asked;
+      asked = one_asked (texts_of (asked_records_of history)) gate.shown gate'.shown asked;
       ended = has_ended fault first last history ends replayed;
       alone =
           λ _. record { sequential = sequential; waits = waits_at fault first last history ends; quiet = quiet_but fault gate gate' journal journal' caused };
     }
 
-broke_by : (start : Digest) (history : History) (bytes : List ℕ) → BrokeAtEnd start history bytes → BrokeBy 1 start history bytes
-broke_by start history bytes broke = (λ _. broke, λ other. absurd (other refl))
+broke_by : (start : Digest) (kept : KeptVerdicts) (history : History) (bytes : List ℕ) → BrokeAtEnd start kept history bytes
+    → BrokeBy 1 start kept history bytes
+broke_by start kept history bytes broke = (λ _. broke, λ other. absurd (other refl))
 
-part_by : (start : Digest) (history : History) (old new : Option Put) → HasPart start history old new → HasPartBy 1 start history old new
-part_by start history old new part = (part.0, ⊎_elim inl (λ broke. inr (put_broke history new broke)) part.1)
+part_by : (start : Digest) (kept : KeptVerdicts) (history : History) (old new : Option Put) → HasPart start kept history old new
+    → HasPartBy 1 start kept history old new
+part_by start kept history old new part = (part.0, ⊎_elim inl (λ broke. inr (put_broke history new broke)) part.1)
   where
-    put_broke : (history : History) (new : Option Put) → IfSome new (λ put. BrokeAtEnd start history put.bytes)
-        → IfSome new (λ put. BrokeBy 1 start history put.bytes)
+    put_broke : (history : History) (new : Option Put) → IfSome new (λ put. BrokeAtEnd start kept history put.bytes)
+        → IfSome new (λ put. BrokeBy 1 start kept history put.bytes)
     put_broke history None broke = tt
-    put_broke history (Some put) broke = broke_by start history put.bytes broke
+    put_broke history (Some put) broke = broke_by start kept history put.bytes broke
 
-pub one_left : (start : Digest) (fault : Option PoolFault) (history : History) (old new : Option Put) → JournalEnds start fault history old new
-    → JournalLeft 1 start fault history old new
-one_left start None history old new ends = ends
-one_left start (Some (pool.Script worker)) history old new ends = ends
-one_left start (Some pool.Journal) history old new ends = part_by start history old new ends
-one_left start (Some pool.Memory) history old new ends = ends
+pub one_left : (start : Digest) (kept : KeptVerdicts) (fault : Option PoolFault) (history : History) (old new : Option Put)
+    → JournalEnds start kept fault history old new → JournalLeft 1 start kept fault history old new
+one_left start kept None history old new ends = ends
+one_left start kept (Some (pool.Script worker)) history old new ends = ends
+one_left start kept (Some pool.Journal) history old new ends = part_by start kept history old new ends
+one_left start kept (Some pool.Memory) history old new ends = ends
 
 -- the same answer by other names of the numbers
 pub answers_at : (fault : Option PoolFault) (result : StepResult) (units units' bytes bytes' record_count record_count' : ℕ) (answer : Result Reduced RunFault)

@@ -6,12 +6,13 @@ use Rattle.script_gate_trait.specs.declared.gate.Verdict.{Verdict}
 use Rattle.script_gate_trait.specs.declared.gate.Verdict.TheVariants.{No}
 use Rattle.script_gate_trait.specs.declared.log.Log.{Log}
 use Rattle.verdict_table.specs.declared.record.Record.{Record}
-use Rattle.verdict_table.specs.TableState.{texts_of}
+use Rattle.verdict_table.specs.TableState.{texts_of, verdict_in}
 use Rattle.reduce_rounds.specs.Mode.{RoundMode}
 use Rattle.reduce_rounds.specs.Laws.{IsTextOf}
 use Rattle.run_worker.specs.RunHistory.{IsBeginning, own_history, with_all_asked}
-use Rattle.reduce_journal.specs.History.{History, IsHistory, records_of}
-use Rattle.ordered_commit_moves.specs.Replay.{IsLegal}
+use Rattle.reduce_journal.specs.History.{History, IsHistory, asked_records_of, records_of}
+use Rattle.ordered_commit_moves.specs.Moves.{KeptVerdicts}
+use Rattle.ordered_commit_moves.specs.Replay.{AllGoWith, IsLegal}
 use Rattle.reduce_rounds.specs.RoundsPlan.{plan_first}
 use Rattle.run_gated.specs.Seen.{logs_of}
 use Rattle.run_gated.specs.Run.{Run}
@@ -51,18 +52,21 @@ pub record AreAsked (texts : List (List ℕ)) (old new : List (Option Log)) : Ty
   pub alone : length old ≡ 1 → shares ≡ texts ∷ []
   pub asked : new ≡ all_asked shares old
 
--- Whatever was reduced: no text is there twice, each verdict is a gate's, and the gates were asked as often as there are records.
+-- Whatever was reduced: no text is there twice; a record is kept exactly where its text has a kept verdict, and then it has that one; each other verdict is a
+-- gate's; and the gates were asked as often as there are records that aren't kept.
 pub record AreAnswers (may_say : List ℕ → Verdict → Type 0) (run : Run) : Type 0 where
   pub distinct : IsDistinct bytes_eq (texts_of (records_of run.history))
-  pub said : All (λ r. may_say r.text r.verdict) (records_of run.history)
-  pub asked : AreAsked (texts_of (records_of run.history)) (logs_of run.before.gates) (logs_of run.after.gates)
+  pub resumed : AllGoWith (verdict_in run.kept) run.history
+  pub said : All (λ r. may_say r.text r.verdict) (asked_records_of run.history)
+  pub asked : AreAsked (texts_of (asked_records_of run.history)) (logs_of run.before.gates) (logs_of run.after.gates)
 
 -- The history is one that the reducer of the mode can have, and that can be read back; each text is that of a listed state that is kept; the first is
--- the start's, and after its no nothing was asked. With one worker the history is a beginning of what one thread does over its records.
-pub record AreOfMode {T : Type 0} (workers : ℕ) (mode : RoundMode T) (Kept : T → Type 0) (history : History) : Type 0 where
+-- the start's, and after its no nothing was asked. With one worker the history is a beginning of what one thread does over its records, where
+-- these verdicts are kept from an earlier run.
+pub record AreOfMode {T : Type 0} (workers : ℕ) (earlier : KeptVerdicts) (mode : RoundMode T) (Kept : T → Type 0) (history : History) : Type 0 where
   pub legal : IsLegal (plan_first mode) history
   pub readable : IsHistory history
   pub candidates : All (λ r. IsTextOf mode Kept r.text) (records_of history)
   pub first : BeginsAt (mode.text mode.start) (records_of history)
   pub ends_at_no : FirstIsNo (records_of history) → OnlyNo (records_of history)
-  pub sequential : workers ≡ 1 → IsBeginning history (own_history (plan_first mode) history)
+  pub sequential : workers ≡ 1 → IsBeginning history (own_history earlier (plan_first mode) history)

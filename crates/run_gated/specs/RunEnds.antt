@@ -14,6 +14,7 @@ use Rattle.reduce_rounds.specs.ByTrials.{recursion_of, reduction_of}
 use Rattle.reduce_rounds.specs.Laws.{EndsWell, result_of}
 use Rattle.reduce_rounds.specs.Verdicts.{HasVerdicts, says_yes}
 use Rattle.reduce_rounds.specs.RoundsPlan.{IsStart, plan_first}
+use Rattle.ordered_commit_moves.specs.Moves.{KeptVerdicts}
 use Rattle.ordered_commit_moves.specs.Replay.{replay}
 use Rattle.run_worker.specs.RunHistory.{own_history}
 use Rattle.run_worker.specs.RunEnds.{HasNothing, HasWritten}
@@ -48,8 +49,9 @@ counts_of_result units bytes result records = record {
 -- The records have all verdicts that the reduction asks, of which the first is the start's yes; this is its result, with its counts; and
 -- where the mode is lawful and the start listed, it ends at a yes that is kept, from which nothing that a round tries is interesting. The
 -- commits lead the reducer to its end; with one worker the history is all that one thread does over its records.
-pub record ReducesIn {T : Type 0} (workers : ℕ) (mode : RoundMode T) (Kept : T → Type 0) (history : History) (result : StepResult) : Type 0 where
-  pub whole : workers ≡ 1 → history ≡ own_history (plan_first mode) history
+pub record ReducesIn {T : Type 0} (workers : ℕ) (earlier : KeptVerdicts) (mode : RoundMode T) (Kept : T → Type 0) (history : History)
+    (result : StepResult) : Type 0 where
+  pub whole : workers ≡ 1 → history ≡ own_history earlier (plan_first mode) history
   pub committed : HasEnded (replay (plan_first mode) history)
   pub first : FirstIs (mode.text mode.start) Yes (records_of history)
   pub defined : IsDefinedOver mode (records_of history)
@@ -59,10 +61,10 @@ pub record ReducesIn {T : Type 0} (workers : ℕ) (mode : RoundMode T) (Kept : T
       → EndsWell mode Kept (λ state other. IsTriedAtNo (mode.round state) other) (verdict_in (records_of history))
       (reduction_over mode (records_of history)).state
 
--- The reduction asks for a text that has no record, the gate hadn't said no to the start, and the history is all that one thread does over its records.
-abbrev pub IsUnfinishedIn : {T : Type 0} → RoundMode T → History → Type 0
-IsUnfinishedIn mode history =
-    (¬ FirstIsNo (records_of history)) × (¬ IsDefinedOver mode (records_of history)) × (history ≡ own_history (plan_first mode) history)
+-- The reduction asks for a text that has no record, the start's verdict isn't no, and the history is all that one thread does over its records.
+abbrev pub IsUnfinishedIn : {T : Type 0} → KeptVerdicts → RoundMode T → History → Type 0
+IsUnfinishedIn earlier mode history =
+    (¬ FirstIsNo (records_of history)) × (¬ IsDefinedOver mode (records_of history)) × (history ≡ own_history earlier (plan_first mode) history)
 
 -- Why a run ended without a result: the verdict on the start is no; or a call failed of the gate of the worker that is
 -- named; or a call of the journal failed; or out of memory. After the start's no nothing was asked, and its commit is
@@ -70,10 +72,10 @@ IsUnfinishedIn mode history =
 abbrev pub RunFailsIn : {T : Type 0} → RoundMode T → Run → RunFault → Type 0
 RunFailsIn mode run NotInteresting =
     FirstIs (mode.text mode.start) No (records_of run.history) × OnlyNo (records_of run.history) × NoneFailed run.before run.after
-    × (run.workers ≡ 1 → run.history ≡ own_history (plan_first mode) run.history) × HasEnded (replay (plan_first mode) run.history)
+    × (run.workers ≡ 1 → run.history ≡ own_history (verdict_in run.kept) (plan_first mode) run.history) × HasEnded (replay (plan_first mode) run.history)
 RunFailsIn mode run (Script worker) =
     GateFailed worker run.before.gates run.after.gates × IsQuiet run.before.journal run.after.journal
-    × (run.workers ≡ 1 → IsUnfinishedIn mode run.history)
+    × (run.workers ≡ 1 → IsUnfinishedIn (verdict_in run.kept) mode run.history)
 RunFailsIn mode run Journal = CallFailed run.before.journal run.after.journal × (run.workers ≡ 1 → AreQuiet run.before.gates run.after.gates)
 RunFailsIn mode run Memory = IsQuiet run.before.journal run.after.journal × (run.workers ≡ 1 → AreQuiet run.before.gates run.after.gates)
 
@@ -82,7 +84,7 @@ abbrev pub RunEndsIn : {T : Type 0} → RoundMode T → (T → Type 0) → Run �
 RunEndsIn mode Kept run (Ok reduced) =
     ((result : StepResult) × (reduced.text.items ≡ result.text)
     × (reduced.counts ≡ counts_of_result (mode.size mode.start) (length (mode.text mode.start)) result (length (records_of run.history)))
-    × ReducesIn run.workers mode Kept run.history result)
+    × ReducesIn run.workers (verdict_in run.kept) mode Kept run.history result)
     × NoneFailed run.before run.after
 RunEndsIn mode Kept run (Err fault) = RunFailsIn mode run fault
 
@@ -97,7 +99,8 @@ JournalHas run (Ok reduced) = IsWrittenWhole run
 JournalHas run (Err NotInteresting) = IsWrittenWhole run
 JournalHas run (Err (Script worker)) = IsWrittenWhole run
 JournalHas run (Err Journal) =
-    HasPartBy run.workers run.start run.history run.before.journal.shown run.after.journal.shown × CallFailed run.before.journal run.after.journal
+    HasPartBy run.workers run.start (verdict_in run.kept) run.history run.before.journal.shown run.after.journal.shown
+    × CallFailed run.before.journal run.after.journal
 JournalHas run (Err Memory) =
     (HasWritten run.start run.history run.before.journal.shown run.after.journal.shown
     ⊎ HasNothing run.history run.before.journal.shown run.after.journal.shown)
@@ -111,5 +114,5 @@ pub record IsSound (may_say : List ℕ → Verdict → Type 0) (run : Run) : Typ
 -- What the run of a reducer comes to in a mode: its history, where the start may be asked and a kept state leads to kept ones; and its end, where the reducer's
 -- result before the run is the start.
 pub record IsRunIn {T : Type 0} (mode : RoundMode T) (Kept : T → Type 0) (so_far : StepResult) (run : Run) : Type 0 where
-  pub history : Keeps mode Kept → mode.is_listed mode.start ≡ true → AreOfMode run.workers mode Kept run.history
+  pub history : Keeps mode Kept → mode.is_listed mode.start ≡ true → AreOfMode run.workers (verdict_in run.kept) mode Kept run.history
   pub ends : IsStart mode so_far → RunEndsIn mode Kept run run.outcome

@@ -10,11 +10,12 @@ ghost use Rattle.run_gated.specs.RunEnds.{IsRunIn, IsSound};
 ghost use Rattle.run_gated.specs.inner.RunEnds.{AnswersFor};
 
 use crate::fault::RunFault;
+use crate::known::Known;
 use crate::ran::{Ran, Reduced};
 use crate::workers::run_all;
 use edge_io::Sink;
 use ordered_commit::{Outcome, PoolFault};
-use reduce_journal::{Counts, Digest, Event};
+use reduce_journal::{Counts, Event};
 use reduce_rounds::{
     ReducerStep, Round, Rounds, asks_candidates, ends_minimal, follows_reduction, refuses_at_no,
 };
@@ -79,8 +80,8 @@ fn result_of<R: Round + Drop>(
 
 /// Asks the gates of the workers for what the reducer asks, several at a time where there are several
 /// workers, until it asks nothing more; writes the history into the journal, and gives the text that the
-/// reducer has come to. No text is recorded twice, and the gates are asked as often as there are records.
-/// A start whose verdict is no ends the run.
+/// reducer has come to. No text is recorded twice; a text that has a kept verdict is recorded with it, and
+/// the gates are asked as often as there are other records. A start whose verdict is no ends the run.
 ///
 /// The journal gets the digest of the start. What is said of a mode holds for each input at which the
 /// reducer's first plan, and its result so far, are those of the mode. Beside the answers of the reducer
@@ -97,17 +98,17 @@ pub fn run_to_text<
     reducer: Rounds<R>,
     workers: &mut [Worker<G>],
     journal: J,
-    start: Digest,
+    known: Known,
 ) -> Ran<J>
     requires new { ⟦<Rounds<R> as Step>⟧.first reducer ≡ ⟦<Rounds<R> as Step>⟧.plan reducer }
     requires empty { IfSome (J.put_so_far journal) (λ put. put.bytes ≡ []) }
     requires idle { AreIdle workers.old }
     ensures idle { AreIdle workers.new }
     ensures as_many { length workers.new ≡ length workers.old }
-    ensures sound { IsSound G.may_say (run_of G.log G.faults J.put_so_far J.faults workers.old workers.new journal start result) }
+    ensures sound { IsSound G.may_say (run_of G.log G.faults J.put_so_far J.faults workers.old workers.new journal known result) }
     ensures in_mode { (input : R.Input) → ⟦<Rounds<R> as Step>⟧.first reducer ≡ plan_first (R.mode input)
         → IsRunIn (R.mode input) (R.Kept input) (⟦<Rounds<R> as ReducerStep>⟧.so_far reducer)
-        (run_of G.log G.faults J.put_so_far J.faults workers.old workers.new journal start result) }
+        (run_of G.log G.faults J.put_so_far J.faults workers.old workers.new journal known result) }
 {
     follows_reduction::<R>();
     refuses_at_no::<R>();
@@ -122,7 +123,7 @@ pub fn run_to_text<
         journal,
         events,
         fault,
-    } = run_all(rt, alloc, reducer, workers, journal, start);
+    } = run_all(rt, alloc, reducer, workers, journal, known);
     let outcome = result_of(alloc, &front, size, record_count(&events), fault);
     Ran {
         journal,

@@ -84,7 +84,7 @@ counts_alike guard problem rs rs' agree same = λ i. record {
 }
 
 pub runs_reduce_alike : ProblemsReduceAlike → RunsReduceAlike
-runs_reduce_alike alike workers workers' guard problem history history' text text' counts counts' ran ran' agree =
+runs_reduce_alike alike workers workers' kept kept' guard problem history history' text text' counts counts' ran ran' agree =
     let V = verdict_in (records_of history) in
     let W = verdict_in (records_of history') in
     let same = are_same guard V W agree alike problem ran.reduced.is_problem ran.reduced.defined ran'.reduced.defined in (

@@ -21,9 +21,10 @@ use Rattle.reduce_rounds.specs.RoundsPlan.{IsStart, plan_first}
 use Rattle.run_gated.specs.declared.fault.RunFault.{RunFault}
 use Rattle.run_gated.specs.declared.fault.RunFault.TheVariants as run_fault
 use Rattle.run_gated.specs.declared.ran.Reduced.{Reduced}
-use Rattle.reduce_journal.specs.History.{History, records_of}
+use Rattle.reduce_journal.specs.History.{History, asked_records_of, records_of}
 use Rattle.reduce_journal.specs.declared.counts.Counts.{Counts}
-use Rattle.ordered_commit_moves.specs.Replay.{IsLegal}
+use Rattle.ordered_commit_moves.specs.Moves.{KeptVerdicts}
+use Rattle.ordered_commit_moves.specs.Replay.{AllGoWith, IsLegal}
 use Rattle.run_gated.specs.Seen.{Reached, SeenGate, fault_counts_of, logs_of}
 use Rattle.run_gated.specs.Run.{Run}
 use Rattle.run_gated.specs.Records.{AreAnswers, AreAsked, AreOfMode, BeginsAt, FirstIs}
@@ -61,14 +62,18 @@ no_texts = tt
 pub none_answers : (may_say : List ℕ → Verdict → Type 0) (run : Run) → run.history ≡ [] → run.after.gates ≡ run.before.gates → AreAnswers may_say run
 none_answers may_say run none same = record {
   distinct = subst (λ (rs : List Record). IsDistinct bytes_eq (texts_of rs)) (sym no_records) no_texts;
-  said = subst (λ (rs : List Record). All (λ r. may_say r.text r.verdict) rs) (sym no_records) (All-nil _);
-  asked = subst (λ (gates : List SeenGate). AreAsked (texts_of (records_of run.history)) (logs_of run.before.gates) (logs_of gates)) (sym same)
-      (subst (λ (rs : List Record). AreAsked (texts_of rs) (logs_of run.before.gates) (logs_of run.before.gates)) (sym no_records)
+  resumed = subst (λ (h : History). AllGoWith (verdict_in run.kept) h) (sym none) tt;
+  said = subst (λ (rs : List Record). All (λ r. may_say r.text r.verdict) rs) (sym no_asked) (All-nil _);
+  asked = subst (λ (gates : List SeenGate). AreAsked (texts_of (asked_records_of run.history)) (logs_of run.before.gates) (logs_of gates)) (sym same)
+      (subst (λ (rs : List Record). AreAsked (texts_of rs) (logs_of run.before.gates) (logs_of run.before.gates)) (sym no_asked)
       (nothing_asked (logs_of run.before.gates)));
 }
   where
     no_records : records_of run.history ≡ []
     no_records = ap records_of none
+
+    no_asked : asked_records_of run.history ≡ []
+    no_asked = ap asked_records_of none
 
 module _ (guard : Admits) where
   -- the input of mode lines
@@ -104,16 +109,16 @@ module _ (guard : Admits) where
       omega (arith, within, of_text, of_start)
 
   -- the history is one of lines
-  pub are_of : HistoriesGoByQuestions → (workers : ℕ) (start : List ℕ) (history : History)
-      → AreOfMode workers (line_mode (lines_of start)) (AreOfStart (lines_of start)) history → AreOf workers guard (Problem.of_lines start) history
-  are_of by workers start history of =
+  pub are_of : HistoriesGoByQuestions → (workers : ℕ) (K : KeptVerdicts) (start : List ℕ) (history : History)
+      → AreOfMode workers K (line_mode (lines_of start)) (AreOfStart (lines_of start)) history → AreOf workers K guard (Problem.of_lines start) history
+  are_of by workers K start history of =
       let records : List Record = records_of history in
       let goes : GoesByQuestions guard (Problem.of_lines start) history = by guard (Problem.of_lines start) tt history in
       record {
         distinct = of.legal.distinct;
         legal = goes.answers of.legal;
         readable = of.readable;
-        sequential = λ alone. subst (IsPrefix history) goes.alone (of.sequential alone);
+        sequential = λ alone. subst (IsPrefix history) (goes.alone K) (of.sequential alone);
         candidates =
             All-weaker (λ (r : Record). IsTextOf (line_mode (lines_of start)) (AreOfStart (lines_of start)) r.text)
             (λ (r : Record). IsLineCandidate guard start r.text)
@@ -146,8 +151,8 @@ module _ (guard : Admits) where
     -- the start is reduced to the text of the result
     reduces : LinesEndMinimal → IsAdmitted start → (result : StepResult) (counts : Counts)
         → counts ≡ ends.counts_of_result (length (numbered_lines start)) (length (text_of (numbered_lines start))) result (length records)
-        → ReducesIn run.workers (line_mode (lines_of start)) (AreOfStart (lines_of start)) run.history result
-        → ReducesFrom run.workers guard (Problem.of_lines start) run.history result.text counts
+        → ReducesIn run.workers (verdict_in run.kept) (line_mode (lines_of start)) (AreOfStart (lines_of start)) run.history result
+        → ReducesFrom run.workers (verdict_in run.kept) guard (Problem.of_lines start) run.history result.text counts
     reduces minimal kept result counts are_counts it =
         let V = verdict_in records in
         let defined : HasVerdicts V R.questions = subst (λ (r : Reduction (List Line)). HasVerdicts V r.questions) same_reduction it.defined in
@@ -173,14 +178,21 @@ module _ (guard : Admits) where
               (it.is_result ∙ ap (result_of (trials.recursion_of (line_mode (lines_of start)))) same_reduction)
               ∙ ap (λ (text : List ℕ). ends.counts_of_result (length (numbered_lines start)) (length text)
               (result_of (trials.recursion_of (line_mode (lines_of start))) R) (length records)) (text-numbered_lines start);
-          whole = λ alone. it.whole alone ∙ goes.alone;
+          whole = λ alone. it.whole alone ∙ goes.alone (verdict_in run.kept);
           committed = goes.answered legal it.committed;
         }
 
     -- why the start has no reduction
     fails : (fault : RunFault) → RunFailsIn (line_mode (lines_of start)) run fault → RunFails guard (Problem.of_lines start) run fault
-    fails run_fault.NotInteresting why =
-        (record { first = first_text No why.0; only = why.1; whole = λ alone. why.3 alone ∙ goes.alone; committed = goes.answered legal why.4 }, why.2)
+    fails run_fault.NotInteresting why = (
+      record {
+        first = first_text No why.0;
+        only = why.1;
+        whole = λ alone. why.3 alone ∙ goes.alone (verdict_in run.kept);
+        committed = goes.answered legal why.4;
+      },
+      why.2,
+    )
     fails (run_fault.Script worker) why = (
       why.0,
       why.1,
@@ -189,7 +201,7 @@ module _ (guard : Admits) where
           record {
             waits = λ has. waits.1 (subst (λ (r : Reduction (List Line)). HasVerdicts (verdict_in records) r.questions) (sym same_reduction) has);
             not_no = waits.0;
-            whole = waits.2 ∙ goes.alone;
+            whole = waits.2 ∙ goes.alone (verdict_in run.kept);
           },
     )
     fails run_fault.Journal why = why
@@ -199,27 +211,28 @@ module _ (guard : Admits) where
     pub lines_end : LinesEndMinimal → IsAdmitted start → (result : Result Reduced RunFault)
         → RunEndsIn (line_mode (lines_of start)) (AreOfStart (lines_of start)) run result → ProblemEnds guard (Problem.of_lines start) run result
     lines_end minimal kept (Ok reduced) came = (
-      subst (λ (text : List ℕ). ReducesFrom run.workers guard (Problem.of_lines start) run.history text reduced.counts) (sym came.0.1)
+      subst (λ (text : List ℕ). ReducesFrom run.workers (verdict_in run.kept) guard (Problem.of_lines start) run.history text reduced.counts) (sym came.0.1)
           (reduces minimal kept came.0.0 reduced.counts came.0.2 came.0.3),
       came.1,
     )
     lines_end minimal kept (Err fault) came = fails fault came
 
 -- nothing was asked of a problem
-none_answered : (questions : List (List ℕ)) → thread_history (verdict_in []) questions ≡ []
-none_answered [] = refl
-none_answered (text ∷ questions) = refl
+none_answered : (K : KeptVerdicts) (questions : List (List ℕ)) → thread_history (verdict_in []) K questions ≡ []
+none_answered K [] = refl
+none_answered K (text ∷ questions) = refl
 
-none_own : (guard : Admits) (problem : Problem) → thread_over guard problem [] ≡ []
-none_own guard problem = none_answered (questions_over guard problem [])
+none_own : (guard : Admits) (problem : Problem) (K : KeptVerdicts) → thread_over guard problem K [] ≡ []
+none_own guard problem K = none_answered K (questions_over guard problem [])
 
-pub none_of : (workers : ℕ) (guard : Admits) (problem : Problem) (history : History) → history ≡ [] → AreOf workers guard problem history
+pub none_of : (workers : ℕ) (K : KeptVerdicts) (guard : Admits) (problem : Problem) (history : History) → history ≡ []
+    → AreOf workers K guard problem history
 unfolding IsDistinct
-none_of workers guard problem history none = subst (AreOf workers guard problem) (sym none) (record {
+none_of workers K guard problem history none = subst (AreOf workers K guard problem) (sym none) (record {
   distinct = tt;
   legal = (questions_over guard problem [], refl);
   readable = tt;
-  sequential = λ _. ([], none_own guard problem);
+  sequential = λ _. ([], none_own guard problem K);
   candidates = All-nil _;
   short = All-nil _;
   first = tt;
@@ -236,7 +249,7 @@ module _ (run : Run) (none : run.history ≡ []) (out : run.outcome ≡ Err run_
 
   pub refused_of : (guard : Admits) (problem : Problem) → IsRunOf guard problem run
   refused_of guard problem = record {
-    history = none_of run.workers guard problem run.history none;
+    history = none_of run.workers (verdict_in run.kept) guard problem run.history none;
     ends =
         subst (ProblemEnds guard problem run) (sym out) (ap (λ (r : Reached). r.journal.faults) same, λ _. ap (λ (r : Reached). fault_counts_of r.gates) same);
   }
@@ -250,8 +263,9 @@ start_known V recursion has = has.0
 none_waits : (guard : Admits) (problem : Problem) → HasVerdicts (verdict_in []) (questions_of guard problem (verdict_in [])) → ⊥
 none_waits guard problem has = false≢true (start_known (verdict_in []) (recursion_of guard problem) has)
 
-pub unfinished_without : (guard : Admits) (problem : Problem) → IsUnfinished guard problem []
-unfinished_without guard problem = record { waits = none_waits guard problem; not_no = λ first_no. first_no; whole = sym (none_own guard problem) }
+pub unfinished_without : (K : KeptVerdicts) (guard : Admits) (problem : Problem) → IsUnfinished K guard problem []
+unfinished_without K guard problem =
+    record { waits = none_waits guard problem; not_no = λ first_no. first_no; whole = sym (none_own guard problem K) }
 
 -- What a run of a reducer of trees says, in the words of the reduction of trees.
 module _ (mode : TreeMode) (laws : IsTreeMode (round_trials mode) (IsEditBy mode)) (recursions : WalksAreRecursions mode (round_trials mode))
@@ -276,14 +290,14 @@ module _ (mode : TreeMode) (laws : IsTreeMode (round_trials mode) (IsEditBy mode
   goes_on guard = by guard (Problem.of_tree mode input) is run.history
 
   -- the history is one of trees
-  are_of_tree : (guard : Admits) → AreOfMode run.workers trees (IsKept input) run.history
-      → AreOf run.workers guard (Problem.of_tree mode input) run.history
+  are_of_tree : (guard : Admits) → AreOfMode run.workers (verdict_in run.kept) trees (IsKept input) run.history
+      → AreOf run.workers (verdict_in run.kept) guard (Problem.of_tree mode input) run.history
   are_of_tree guard of =
       record {
         distinct = of.legal.distinct;
         legal = (goes_on guard).answers of.legal;
         readable = of.readable;
-        sequential = λ alone. subst (IsPrefix run.history) (goes_on guard).alone (of.sequential alone);
+        sequential = λ alone. subst (IsPrefix run.history) ((goes_on guard).alone (verdict_in run.kept)) (of.sequential alone);
         candidates =
             All-weaker (λ (r : Record). IsTextOf trees (IsKept input) r.text) (λ (r : Record). IsCandidate input r.text)
             (λ r one. laws.asks input r.text is one) tree_records of.candidates;
@@ -297,8 +311,8 @@ module _ (mode : TreeMode) (laws : IsTreeMode (round_trials mode) (IsEditBy mode
   -- the tree is reduced to the text of the result
   tree_reduces : (guard : Admits) → IsLegal (plan_first trees) run.history → input.admits ≡ guard → (result : StepResult) (counts : Counts)
       → counts ≡ ends.counts_of_result (trees.size trees.start) (length (trees.text trees.start)) result (length tree_records)
-      → ReducesIn run.workers trees (IsKept input) run.history result
-      → ReducesFrom run.workers guard (Problem.of_tree mode input) run.history result.text counts
+      → ReducesIn run.workers (verdict_in run.kept) trees (IsKept input) run.history result
+      → ReducesFrom run.workers (verdict_in run.kept) guard (Problem.of_tree mode input) run.history result.text counts
   tree_reduces guard legal admits result counts are_counts it =
       let V = verdict_in tree_records in
       let R = over_records guard in
@@ -330,7 +344,7 @@ module _ (mode : TreeMode) (laws : IsTreeMode (round_trials mode) (IsEditBy mode
             (it.is_result ∙ ap (result_of (trials.recursion_of trees)) same)
             ∙ ap (λ (text : List ℕ). ends.counts_of_result (trees.size trees.start) (length text) (result_of (trials.recursion_of trees) R)
             (length tree_records)) begins.text;
-        whole = λ alone. it.whole alone ∙ (goes_on guard).alone;
+        whole = λ alone. it.whole alone ∙ (goes_on guard).alone (verdict_in run.kept);
         committed = (goes_on guard).answered legal it.committed;
       }
 
@@ -341,7 +355,7 @@ module _ (mode : TreeMode) (laws : IsTreeMode (round_trials mode) (IsEditBy mode
     record {
       first = subst (λ (start : List ℕ). FirstIs start No tree_records) begins.text why.0;
       only = why.1;
-      whole = λ alone. why.3 alone ∙ (goes_on guard).alone;
+      whole = λ alone. why.3 alone ∙ (goes_on guard).alone (verdict_in run.kept);
       committed = (goes_on guard).answered legal why.4;
     },
     why.2,
@@ -354,7 +368,7 @@ module _ (mode : TreeMode) (laws : IsTreeMode (round_trials mode) (IsEditBy mode
         record {
           waits = λ has. waits.1 (subst (λ (r : Reduction TreeState). HasVerdicts (verdict_in tree_records) r.questions) (sym (same_trees guard)) has);
           not_no = waits.0;
-          whole = waits.2 ∙ (goes_on guard).alone;
+          whole = waits.2 ∙ (goes_on guard).alone (verdict_in run.kept);
         },
   )
   tree_fails guard legal run_fault.Journal why = why
@@ -364,7 +378,7 @@ module _ (mode : TreeMode) (laws : IsTreeMode (round_trials mode) (IsEditBy mode
   tree_ends : (guard : Admits) → IsLegal (plan_first trees) run.history → input.admits ≡ guard → (result : Result Reduced RunFault)
       → RunEndsIn trees (IsKept input) run result → ProblemEnds guard (Problem.of_tree mode input) run result
   tree_ends guard legal admits (Ok reduced) came = (
-    subst (λ (text : List ℕ). ReducesFrom run.workers guard (Problem.of_tree mode input) run.history text reduced.counts) (sym came.0.1)
+    subst (λ (text : List ℕ). ReducesFrom run.workers (verdict_in run.kept) guard (Problem.of_tree mode input) run.history text reduced.counts) (sym came.0.1)
         (tree_reduces guard legal admits came.0.0 reduced.counts came.0.2 came.0.3),
     came.1,
   )

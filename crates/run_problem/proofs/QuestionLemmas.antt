@@ -11,6 +11,7 @@ use Rattle.verdict_table.proofs.Lent.{extends_itself}
 use Rattle.reduce_step.specs.Plan.{Plan, End, Ask, HasEnded, after, height}
 use Rattle.reduce_journal.specs.History.{AllMayFollow, History, IsHistory, records_of}
 use Rattle.reduce_journal.specs.declared.event.Event.TheVariants.{Recorded, Committed}
+use Rattle.ordered_commit_moves.specs.Moves.{KeptVerdicts}
 use Rattle.ordered_commit_moves.specs.Replay.{CommitsWhatIsAsked, IsLegal, answered, record_at, replay, replay_from}
 use Rattle.ordered_commit_moves.proofs.Lent.{extends_at}
 use Rattle.run_worker.specs.Sequential.{answer_events, by_verdict, records_after, sequential_from}
@@ -153,12 +154,12 @@ record_there (suc (suc n)) (r ∷ records) some few =
     record_there (suc n) records (omega arith) fewer
 
 -- as many commits as texts
-commit_count : (earlier : List Record) (history : History) → AllMayFollow (length earlier) history
+commit_count : (earlier : List Record) (history : History) → AllMayFollow 2 (length earlier) history
     → answer_count history ≡ length (committed_from earlier history)
 commit_count earlier [] may = refl
-commit_count earlier (Recorded text verdict ∷ history) may =
+commit_count earlier (Recorded text verdict kept ∷ history) may =
     let r : Record = record { text = text; verdict = verdict } in
-    commit_count (earlier ++ r ∷ []) history (subst (λ (n : ℕ). AllMayFollow n history) (one_longer earlier r) may.1)
+    commit_count (earlier ++ r ∷ []) history (subst (λ (n : ℕ). AllMayFollow 2 n history) (one_longer earlier r) may.1)
 commit_count earlier (Committed number ∷ history) may =
     let at : (r : Record) × (record_at number earlier ≡ Some r) = record_there number earlier may.0.names.0 may.0.names.1 in
     ap (λ (n : ℕ). suc n) (commit_count earlier history may.1)
@@ -190,7 +191,7 @@ module _ (V : List ℕ → Option Verdict) where
       → CommitsWhatIsAsked earlier plan history
       → asked_by (says_yes V) plan ≡ committed_from earlier history ++ asked_by (says_yes V) (replay_from earlier plan history)
   asks_committed earlier plan [] known later commits = refl
-  asks_committed earlier plan (Recorded text verdict ∷ history) known later commits =
+  asks_committed earlier plan (Recorded text verdict kept ∷ history) known later commits =
       let r : Record = record { text = text; verdict = verdict } in
       asks_committed (earlier ++ r ∷ []) plan history (extends_push earlier r known later.0) later.1 commits
   asks_committed earlier (End result) (Committed number ∷ history) known later commits = absurd (cc commits.2)
@@ -208,13 +209,13 @@ module _ (V : List ℕ → Option Verdict) where
 
   -- a history whose commits answer the first of what a reducer asks is one that it can have
   is_asked : (earlier : List Record) (plan : Plan) (history : History) (later : List (List ℕ)) → Extends V earlier → Extends V (records_of history)
-      → AllMayFollow (length earlier) history
+      → AllMayFollow 2 (length earlier) history
       → asked_by (says_yes V) plan ≡ committed_from earlier history ++ later → CommitsWhatIsAsked earlier plan history
   is_asked earlier plan [] later known more may asks = tt
-  is_asked earlier plan (Recorded text verdict ∷ history) later known more may asks =
+  is_asked earlier plan (Recorded text verdict kept ∷ history) later known more may asks =
       let r : Record = record { text = text; verdict = verdict } in
       is_asked (earlier ++ r ∷ []) plan history later (extends_push earlier r known more.0) more.1
-      (subst (λ (n : ℕ). AllMayFollow n history) (one_longer earlier r) may.1) asks
+      (subst (λ (n : ℕ). AllMayFollow 2 n history) (one_longer earlier r) may.1) asks
   is_asked earlier (End result) (Committed number ∷ history) later known more may asks =
       let at : (r : Record) × (record_at number earlier ≡ Some r) = record_there number earlier may.0.names.0 may.0.names.1 in
       let some : [] ≡ at.0.text ∷ (committed_from earlier history ++ later) =
@@ -233,22 +234,25 @@ module _ (V : List ℕ → Option Verdict) where
 
   -- ---- one thread
 
-  -- it does the same for a reducer as for its questions
-  abbrev DoesSame : Plan → Type 0
-  DoesSame plan = (records : List Record) → sequential_from V records plan ≡ thread_from V records (asked_by (says_yes V) plan)
+  -- it does the same for a reducer as for its questions, whatever verdicts are kept
+  module _ (K : KeptVerdicts) where
+    abbrev DoesSame : Plan → Type 0
+    DoesSame plan = (records : List Record) → sequential_from V K records plan ≡ thread_from V K records (asked_by (says_yes V) plan)
 
-  one_answer : (o : Option Verdict) (records : List Record) (text : List ℕ) (y n : Plan) → DoesSame y → DoesSame n
-      → by_verdict o (answer_events records text Yes ++ sequential_from V (records_after records text Yes) y)
-      (answer_events records text No ++ sequential_from V (records_after records text No) n)
-      ≡ with_verdict o (λ verdict. answer_events records text verdict ++ thread_from V (records_after records text verdict)
-      (cond (is_yes o) (asked_by (says_yes V) y) (asked_by (says_yes V) n)))
-  one_answer None records text y n at_yes at_no = refl
-  one_answer (Some Yes) records text y n at_yes at_no = ap (λ (h : History). answer_events records text Yes ++ h) (at_yes (records_after records text Yes))
-  one_answer (Some No) records text y n at_yes at_no = ap (λ (h : History). answer_events records text No ++ h) (at_no (records_after records text No))
+    one_answer : (o : Option Verdict) (records : List Record) (text : List ℕ) (y n : Plan) → DoesSame y → DoesSame n
+        → by_verdict o (answer_events K records text Yes ++ sequential_from V K (records_after K records text Yes) y)
+        (answer_events K records text No ++ sequential_from V K (records_after K records text No) n)
+        ≡ with_verdict o (λ verdict. answer_events K records text verdict ++ thread_from V K (records_after K records text verdict)
+        (cond (is_yes o) (asked_by (says_yes V) y) (asked_by (says_yes V) n)))
+    one_answer None records text y n at_yes at_no = refl
+    one_answer (Some Yes) records text y n at_yes at_no =
+        ap (λ (h : History). answer_events K records text Yes ++ h) (at_yes (records_after K records text Yes))
+    one_answer (Some No) records text y n at_yes at_no =
+        ap (λ (h : History). answer_events K records text No ++ h) (at_no (records_after K records text No))
 
-  does_same : (plan : Plan) → DoesSame plan
-  does_same (End result) records = refl
-  does_same (Ask text y n) records = one_answer (V text) records text y n (does_same y) (does_same n)
+    does_same : (plan : Plan) → DoesSame plan
+    does_same (End result) records = refl
+    does_same (Ask text y n) records = one_answer (V text) records text y n (does_same y) (does_same n)
 
 -- ---- of a problem's reducer
 
@@ -290,6 +294,6 @@ histories_go lines visits levels guard problem is history =
       legal = is_legal first history questions asks;
       answered = is_answered first history questions asks;
       ended = has_ended first history questions asks;
-      alone = does_same V first [] ∙ ap (thread_from V []) asks;
+      alone = λ K. does_same V K first [] ∙ ap (thread_from V K []) asks;
       within = subst (λ (texts : List (List ℕ)). length texts ≤ height first) asks (asked_within (says_yes V) first);
     }

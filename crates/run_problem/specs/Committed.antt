@@ -5,6 +5,7 @@ use Rattle.verdict_table.specs.declared.record.Record.{Record}
 use Rattle.verdict_table.specs.TableState.{verdict_in}
 use Rattle.reduce_journal.specs.History.{History, records_of}
 use Rattle.reduce_journal.specs.declared.event.Event.TheVariants.{Recorded, Committed}
+use Rattle.ordered_commit_moves.specs.Moves.{KeptVerdicts}
 use Rattle.ordered_commit_moves.specs.Replay.{record_at}
 use Rattle.run_worker.specs.Sequential.{answer_events, records_after}
 use Rattle.reduce_core.specs.Reduction.{Admits}
@@ -22,7 +23,7 @@ named_text (Some r) = r.text ∷ []
 -- the texts of the records that the commits name, in the order of the commits, where there are these records already
 abbrev pub committed_from : List Record → History → List (List ℕ)
 committed_from earlier [] = []
-committed_from earlier (Recorded text verdict ∷ history) = committed_from (earlier ++ record { text = text; verdict = verdict } ∷ []) history
+committed_from earlier (Recorded text verdict kept ∷ history) = committed_from (earlier ++ record { text = text; verdict = verdict } ∷ []) history
 committed_from earlier (Committed number ∷ history) = named_text (record_at number earlier) ++ committed_from earlier history
 
 -- the texts that a history answers, in order and repeated texts each time
@@ -35,14 +36,14 @@ with_verdict None later = []
 with_verdict (Some verdict) later = later verdict
 
 -- what is done for these questions in order, until one has no verdict: its commit, and before that its record, where it has none yet
-abbrev pub thread_from : (List ℕ → Option Verdict) → List Record → List (List ℕ) → History
-thread_from V records [] = []
-thread_from V records (text ∷ questions) =
-    with_verdict (V text) (λ verdict. answer_events records text verdict ++ thread_from V (records_after records text verdict) questions)
+abbrev pub thread_from : (List ℕ → Option Verdict) → KeptVerdicts → List Record → List (List ℕ) → History
+thread_from V kept records [] = []
+thread_from V kept records (text ∷ questions) =
+    with_verdict (V text) (λ verdict. answer_events kept records text verdict ++ thread_from V kept (records_after kept records text verdict) questions)
 
--- what one thread does that asks these questions and gets these verdicts
-abbrev pub thread_history : (List ℕ → Option Verdict) → List (List ℕ) → History
-thread_history V questions = thread_from V [] questions
+-- what one thread does that asks these questions and gets these verdicts, where some are kept from an earlier run
+abbrev pub thread_history : (List ℕ → Option Verdict) → KeptVerdicts → List (List ℕ) → History
+thread_history V kept questions = thread_from V kept [] questions
 
 -- ---- of a problem
 
@@ -51,5 +52,5 @@ abbrev pub questions_over : Admits → Problem → History → List (List ℕ)
 questions_over guard problem history = questions_of guard problem (verdict_in (records_of history))
 
 -- what one thread does over these verdicts
-abbrev pub thread_over : Admits → Problem → History → History
-thread_over guard problem history = thread_history (verdict_in (records_of history)) (questions_over guard problem history)
+abbrev pub thread_over : Admits → Problem → KeptVerdicts → History → History
+thread_over guard problem kept history = thread_history (verdict_in (records_of history)) kept (questions_over guard problem history)

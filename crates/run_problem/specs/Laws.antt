@@ -12,6 +12,7 @@ use Rattle.ordered_commit_moves.specs.Replay.{IsLegal, replay}
 use Rattle.reduce_step.specs.Plan.{HasEnded, Plan, height}
 use Rattle.reduce_rounds.specs.Laws.{AgreeingMapsReduceAlike}
 use Rattle.reduce_rounds.specs.Verdicts.{Agree}
+use Rattle.ordered_commit_moves.specs.Moves.{KeptVerdicts}
 use Rattle.run_worker.specs.RunHistory.{own_history}
 use Rattle.run_worker.specs.Sequential.{sequential_history}
 use Rattle.reduce_core.specs.Reduction.{Admits}
@@ -24,11 +25,13 @@ use Rattle.run_problem.specs.Ends.{IsAnswered, ReducesFrom}
 abbrev pub ProblemsReduceAlike : Type 0
 ProblemsReduceAlike = (guard : Admits) (problem : Problem) → IsProblem problem → AgreeingMapsReduceAlike (recursion_of guard problem)
 
--- Two runs whose verdicts agree come to one text, and to one report but for the number of records, however many workers each had and however they interleaved.
+-- Two runs whose verdicts agree come to one text, and to one report but for the number of records, however many workers each had, whichever verdicts it kept,
+-- and however they interleaved.
 abbrev pub RunsReduceAlike : Type 0
 RunsReduceAlike =
-    (workers workers' : ℕ) (guard : Admits) (problem : Problem) (history history' : History) (text text' : List ℕ) (counts counts' : Counts)
-    → ReducesFrom workers guard problem history text counts → ReducesFrom workers' guard problem history' text' counts'
+    (workers workers' : ℕ) (kept kept' : KeptVerdicts) (guard : Admits) (problem : Problem) (history history' : History)
+    (text text' : List ℕ) (counts counts' : Counts)
+    → ReducesFrom workers kept guard problem history text counts → ReducesFrom workers' kept' guard problem history' text' counts'
     → Agree (verdict_in (records_of history)) (verdict_in (records_of history'))
     → (text ≡ text') × (counts ≡ record counts' { records = length (records_of history) })
 
@@ -40,13 +43,14 @@ VerdictsAgree may_say = ((text : List ℕ) (one other : Verdict) → may_say tex
 -- how often a reducer is answered: the commits of a history
 abbrev pub answer_count : History → ℕ
 answer_count [] = 0
-answer_count (Recorded text verdict ∷ history) = answer_count history
+answer_count (Recorded text verdict kept ∷ history) = answer_count history
 answer_count (Committed number ∷ history) = suc (answer_count history)
 
--- A reducer is answered at most as often as its height says: in each history that it can have, and by one thread over each map of verdicts.
+-- A reducer is answered at most as often as its height says: in each history that it can
+-- have, and by one thread over each map of verdicts, whatever verdicts are kept.
 pub record IsAnsweredWithin (first : Plan) (most : ℕ) : Type 0 where
   pub in_history : (history : History) → IsLegal first history → answer_count history ≤ most
-  pub by_verdicts : (V : List ℕ → Option Verdict) → answer_count (sequential_history V first) ≤ most
+  pub by_verdicts : (V : List ℕ → Option Verdict) (kept : KeptVerdicts) → answer_count (sequential_history V kept first) ≤ most
 
 -- A reducer is answered within its height. Where the commits of a history answer the first of some questions, each by an earlier record, there are no more
 -- commits than questions.
@@ -63,7 +67,7 @@ pub record GoesByQuestions (guard : Admits) (problem : Problem) (history : Histo
       → IsPrefix (committed_texts history) (questions_over guard problem history) → IsLegal (reducer_of guard problem) history
   pub answered : IsLegal (reducer_of guard problem) history → HasEnded (replay (reducer_of guard problem) history) → IsAnswered guard problem history
   pub ended : IsLegal (reducer_of guard problem) history → IsAnswered guard problem history → HasEnded (replay (reducer_of guard problem) history)
-  pub alone : own_history (reducer_of guard problem) history ≡ thread_over guard problem history
+  pub alone : (kept : KeptVerdicts) → own_history kept (reducer_of guard problem) history ≡ thread_over guard problem kept history
   pub within : length (questions_over guard problem history) ≤ height (reducer_of guard problem)
 
 abbrev pub HistoriesGoByQuestions : Type 0

@@ -26,7 +26,6 @@ use faults::Memory;
 use keep_guard::{Guard, Relation};
 use reduce_core::{line_reducer, lines_are_recursions, lines_end_minimal};
 use reduce_hdd::TreeLevels;
-use reduce_journal::Digest;
 use reduce_perses::TreeVisits;
 use reduce_rounds::{ReducerStep, Rounds};
 use reduce_step::{Step, TreeMode};
@@ -38,7 +37,7 @@ use reduce_trees::{
 use reduce_trees_input::ParsedInput;
 use reduce_trees_mode::{texts_are_no_longer, whole_is_start};
 use reduce_walk::TreeWalk;
-use run_gated::{Ran, RunFault, run_to_text};
+use run_gated::{Known, Ran, RunFault, run_to_text};
 use script_gate_trait::Gate;
 use std::alloc::Global;
 use std::sync::Wait;
@@ -58,7 +57,7 @@ fn lines_result<
     guard: &Guard<F>,
     workers: &mut [Worker<G>],
     journal: J,
-    digest: Digest,
+    known: Known,
 ) -> Ran<J>
     requires few { length start.now ≤ text_limit }
     requires kept { F.admits guard.now (numbers_of (numbered_lines start.now)) start.now ≡ true }
@@ -66,15 +65,15 @@ fn lines_result<
     requires empty { IfSome (J.put_so_far journal) (λ put. put.bytes ≡ []) }
     ensures idle { AreIdle workers.new }
     ensures as_many { length workers.new ≡ length workers.old }
-    ensures sound { IsSound G.may_say (run_of G.log G.faults J.put_so_far J.faults workers.old workers.new journal digest result) }
+    ensures sound { IsSound G.may_say (run_of G.log G.faults J.put_so_far J.faults workers.old workers.new journal known result) }
     ensures problem { IsRunOf (F.admits guard.now) (Problem.of_lines start.now)
-        (run_of G.log G.faults J.put_so_far J.faults workers.old workers.new journal digest result) }
+        (run_of G.log G.faults J.put_so_far J.faults workers.old workers.new journal known result) }
 {
     lines_are_recursions();
     lines_end_minimal();
     histories_go_by_questions();
     match line_reducer(alloc, start, guard) {
-        Ok(reducer) => run_to_text(rt, alloc, reducer, workers, journal, digest),
+        Ok(reducer) => run_to_text(rt, alloc, reducer, workers, journal, known),
         Err(_) => Ran::refused(alloc, journal, RunFault::Memory),
     }
 }
@@ -126,19 +125,19 @@ fn walk_result<
     reducer: TreeReducer<'p, F, W>,
     workers: &mut [Worker<G>],
     journal: J,
-    digest: Digest,
+    known: Known,
 ) -> Ran<J>
     requires new { ⟦<Rounds<TreeRound<'p, F, W>> as Step>⟧.first reducer ≡ ⟦<Rounds<TreeRound<'p, F, W>> as Step>⟧.plan reducer }
     requires idle { AreIdle workers.old }
     requires empty { IfSome (J.put_so_far journal) (λ put. put.bytes ≡ []) }
     ensures idle { AreIdle workers.new }
     ensures as_many { length workers.new ≡ length workers.old }
-    ensures sound { IsSound G.may_say (run_of G.log G.faults J.put_so_far J.faults workers.old workers.new journal digest result) }
+    ensures sound { IsSound G.may_say (run_of G.log G.faults J.put_so_far J.faults workers.old workers.new journal known result) }
     ensures in_mode { (input : TreeInput) → ⟦<Rounds<TreeRound<'p, F, W>> as Step>⟧.first reducer.entry ≡ plan_first (walk_mode W.round input)
         → IsRunIn (walk_mode W.round input) (IsKept input) (⟦<Rounds<TreeRound<'p, F, W>> as ReducerStep>⟧.so_far reducer.entry)
-        (run_of G.log G.faults J.put_so_far J.faults workers.old workers.new journal digest result) }
+        (run_of G.log G.faults J.put_so_far J.faults workers.old workers.new journal known result) }
 {
-    run_to_text(rt, alloc, reducer, workers, journal, digest)
+    run_to_text(rt, alloc, reducer, workers, journal, known)
 }
 
 /// The text that the tree of an input reduces to, in this mode.
@@ -154,16 +153,16 @@ fn tree_result<
     parts: &TreeParts<F>,
     workers: &mut [Worker<G>],
     journal: J,
-    digest: Digest,
+    known: Known,
 ) -> Ran<J>
     requires kept { let input = ⟦<TreeParts<F> as HasInput>⟧.input parts.now in input.admits (all_kept input.tokens) input.start ≡ true }
     requires idle { AreIdle workers.old }
     requires empty { IfSome (J.put_so_far journal) (λ put. put.bytes ≡ []) }
     ensures idle { AreIdle workers.new }
     ensures as_many { length workers.new ≡ length workers.old }
-    ensures sound { IsSound G.may_say (run_of G.log G.faults J.put_so_far J.faults workers.old workers.new journal digest result) }
+    ensures sound { IsSound G.may_say (run_of G.log G.faults J.put_so_far J.faults workers.old workers.new journal known result) }
     ensures problem { let input = ⟦<TreeParts<F> as HasInput>⟧.input parts.now in IsRunOf input.admits (Problem.of_tree mode input)
-        (run_of G.log G.faults J.put_so_far J.faults workers.old workers.new journal digest result) }
+        (run_of G.log G.faults J.put_so_far J.faults workers.old workers.new journal known result) }
 {
     parts.is_input();
     whole_is_start();
@@ -173,7 +172,7 @@ fn tree_result<
             walk_laws::<TreeVisits>();
             perses_is_its_recursion();
             match perses_reducer(alloc, parts) {
-                Ok(reducer) => walk_result(rt, alloc, reducer, workers, journal, digest),
+                Ok(reducer) => walk_result(rt, alloc, reducer, workers, journal, known),
                 Err(_) => Ran::refused(alloc, journal, RunFault::Memory),
             }
         }
@@ -181,7 +180,7 @@ fn tree_result<
             walk_laws::<TreeLevels>();
             hdd_is_its_recursion();
             match hdd_reducer(alloc, parts) {
-                Ok(reducer) => walk_result(rt, alloc, reducer, workers, journal, digest),
+                Ok(reducer) => walk_result(rt, alloc, reducer, workers, journal, known),
                 Err(_) => Ran::refused(alloc, journal, RunFault::Memory),
             }
         }
@@ -189,9 +188,9 @@ fn tree_result<
 }
 
 /// Reduces what was read, which the guard admits. The gates of the workers are asked, and the history is
-/// written into the journal, whose head gets this digest of the start. The text that it reduces to is
-/// given, with what the report says. No text is recorded twice, and the gates are asked as often as there
-/// are records. A start whose verdict is no ends the run.
+/// written into the journal, whose head gets the digest of the start. The text that it reduces to is given,
+/// with what the report says. No text is recorded twice; a text that has a kept verdict is recorded with it,
+/// and the gates are asked as often as there are other records. A start whose verdict is no ends the run.
 ///
 /// Beside what a gate takes, an answer costs what the reducer of the mode says.
 pub fn run_problem<
@@ -206,7 +205,7 @@ pub fn run_problem<
     guard: Guard<F>,
     workers: &mut [Worker<G>],
     journal: J,
-    digest: Digest,
+    known: Known,
 ) -> Ran<J>
     requires ready { IsReady problem }
     requires kept { F.admits guard (numbers_read problem) (start_read problem) ≡ true }
@@ -214,13 +213,13 @@ pub fn run_problem<
     requires empty { IfSome (J.put_so_far journal) (λ put. put.bytes ≡ []) }
     ensures idle { AreIdle workers.new }
     ensures as_many { length workers.new ≡ length workers.old }
-    ensures sound { IsSound G.may_say (run_of G.log G.faults J.put_so_far J.faults workers.old workers.new journal digest result) }
+    ensures sound { IsSound G.may_say (run_of G.log G.faults J.put_so_far J.faults workers.old workers.new journal known result) }
     ensures problem { (one : Problem) → IsReadAs (F.admits guard) problem one
-        → IsRunOf (F.admits guard) one (run_of G.log G.faults J.put_so_far J.faults workers.old workers.new journal digest result) }
+        → IsRunOf (F.admits guard) one (run_of G.log G.faults J.put_so_far J.faults workers.old workers.new journal known result) }
 {
     match problem {
         ReadProblem::Lines(start) => lines_result(
-            rt, alloc, &start, &guard, workers, journal, digest,
+            rt, alloc, &start, &guard, workers, journal, known,
         ),
         ReadProblem::Tree {
             found,
@@ -228,7 +227,7 @@ pub fn run_problem<
             squeeze,
         } => {
             match tree_parts(alloc, found, guard, squeeze) {
-                Ok(parts) => tree_result(rt, alloc, mode, &parts, workers, journal, digest),
+                Ok(parts) => tree_result(rt, alloc, mode, &parts, workers, journal, known),
                 Err(_) => Ran::refused(alloc, journal, RunFault::Memory),
             }
         }

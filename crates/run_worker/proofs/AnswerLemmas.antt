@@ -1,5 +1,5 @@
 -- What holds after an answer was recorded, or a claim given up.
-use Rattle.std.proofs.Common.{◌≡◌, ◌++◌, ℕ, List, [], ◌∷◌, Bool, true, false, cond, Option, Some, None, option_map}
+use Rattle.std.proofs.Common.{◌≡◌, ◌++◌, ℕ, List, [], ◌∷◌, false, Option, Some, None, is_some, option_map}
 use Rattle.std.proofs.Common.{OnErr, OnOk, Result, Ok, Err, refl, sym, ap, ◌∙◌, subst, append_assoc}
 use Rattle.std.proofs.lemmas.Cmp.{nat_list_eq_equiv}
 use Rattle.std.proofs.lemmas.List.{map-append}
@@ -18,10 +18,10 @@ use Rattle.reduce_step.specs.Plan.{Plan, asked}
 use Rattle.verdict_table.specs.TableState.{texts_of, verdict_in}
 use Rattle.verdict_table.proofs.Lent.{not_among}
 use Rattle.reduce_journal.specs.declared.event.Event.TheVariants.{Recorded}
-use Rattle.reduce_journal.specs.declared.digest.Digest.{Digest}
-use Rattle.reduce_journal.specs.History.{History, records_of}
-use Rattle.ordered_commit_moves.specs.Replay.{record_at, replay}
-use Rattle.ordered_commit_moves.proofs.Lent.{numbered, records_more, replay_record}
+use Rattle.reduce_journal.specs.History.{History, asked_records_of, records_of}
+use Rattle.ordered_commit_moves.specs.Moves.{KeptVerdicts}
+use Rattle.ordered_commit_moves.specs.Replay.{replay}
+use Rattle.ordered_commit_moves.proofs.Lent.{asked_more, records_more, replay_record}
 use Rattle.ordered_commit.specs.declared.fault.PoolFault.{PoolFault}
 use Rattle.ordered_commit.specs.declared.fault.PoolFault.TheVariants.{Journal}
 use Rattle.ordered_commit.specs.declared.seat.Seat.{Seat}
@@ -31,10 +31,11 @@ use Rattle.ordered_commit.specs.Writes.{HasSameName, IsWrittenUnlessBroken}
 use Rattle.ordered_commit.proofs.Lent.{has_more}
 use Rattle.run_worker.specs.RunHistory.{with_all_asked}
 use Rattle.run_worker.specs.RunEnds.{IsCaused}
-use Rattle.run_worker.specs.inner.UnderWay.{CanGoOn, GoesOn, IsAsking, IsUnansweredAt, IsUnderWay, LeadsOn, Moment, moment}
+use Rattle.run_worker.specs.inner.UnderWay.{GoesOn, IsAsking, IsUnansweredAt, IsUnderWay, LeadsOn, Moment, moment}
 use Rattle.run_worker.proofs.SequentialLemmas.{goes_record, leads_record}
 use Rattle.run_worker.proofs.WrittenLemmas.{Has, all_written, record_broke}
 use Rattle.run_worker.proofs.AskLemmas.{replaced}
+use Rattle.run_worker.proofs.LeftLemmas.{Fewer, fewer_by_record, verdict_last}
 
 one_more : (o : Option Log) (texts : List (List ℕ)) (text : List ℕ)
     → option_map (with_asked text) (option_map (with_all_asked texts) o) ≡ option_map (with_all_asked (texts ++ text ∷ [])) o
@@ -49,18 +50,6 @@ pub distinct_more : (rs : List Record) (r : Record) → IsDistinct bytes_eq (tex
     → IsDistinct bytes_eq (texts_of (rs ++ r ∷ []))
 distinct_more rs r distinct absent = rw (texts_more rs r) (IsDistinct-push nat_list_eq_equiv (texts_of rs) r.text distinct (not_among rs r.text absent))
 
-no_verdict_at : (b : Bool) (v : Verdict) (rest : Option Verdict) → cond b (Some v) rest ≡ None → (b ≡ false) × (rest ≡ None)
-no_verdict_at true v rest none = absurd (cc none)
-no_verdict_at false v rest none = (refl, none)
-
--- and its verdict
-verdict_last : (rs : List Record) (text : List ℕ) (verdict : Verdict) → verdict_in rs text ≡ None
-    → verdict_in (rs ++ record { text = text; verdict = verdict } ∷ []) text ≡ Some verdict
-verdict_last [] text verdict none = rw (nat_list_eq_equiv.refl text) refl
-verdict_last (q ∷ rs) text verdict none =
-    let apart = no_verdict_at (bytes_eq text q.text) q.verdict (verdict_in rs text) none in
-    rw apart.0 (verdict_last rs text verdict apart.1)
-
 -- what a recorded answer changes
 module _ {S J : Type 0} (plan : S → Plan) (permit : ClaimedText) (answer : AnsweredText) (seat seat' : Seat) (old new : BoardState S J)
     (asking : IsAsking plan permit seat old) (to : IsAnswerTo permit answer) (recorded : IsRecorded plan answer seat seat' old new) where
@@ -70,14 +59,14 @@ module _ {S J : Type 0} (plan : S → Plan) (permit : ClaimedText) (answer : Ans
   history_more : new.history ≡ old.history ++ event_of answer ∷ []
   history_more = ap (λ (state : BoardState S J). state.history) recorded.else_same
 
-  history : new.history ≡ old.history ++ Recorded permit.text answer.verdict ∷ []
-  history = history_more ∙ ap (λ (t : List ℕ). old.history ++ Recorded t answer.verdict ∷ []) to.1
+  history : new.history ≡ old.history ++ Recorded permit.text answer.verdict false ∷ []
+  history = history_more ∙ ap (λ (t : List ℕ). old.history ++ Recorded t answer.verdict false ∷ []) to.1
 
   records : records_of new.history ≡ records_of old.history ++ r ∷ []
-  records = ap records_of history ∙ records_more old.history permit.text answer.verdict
+  records = ap records_of history ∙ records_more old.history permit.text answer.verdict false
 
-  start_same : new.start ≡ old.start
-  start_same = ap (λ (state : BoardState S J). state.start) recorded.else_same
+  asked_records : asked_records_of new.history ≡ asked_records_of old.history ++ r ∷ []
+  asked_records = ap asked_records_of history ∙ asked_more old.history permit.text answer.verdict
 
   front : new.front ≡ old.front
   front = ap (λ (state : BoardState S J). state.front) recorded.else_same
@@ -88,15 +77,12 @@ module _ {S J : Type 0} (plan : S → Plan) (permit : ClaimedText) (answer : Ans
   only : new.seats ≡ seat' ∷ []
   only = ap (λ (state : BoardState S J). state.seats) recorded.else_same ∙ replaced old.seats seat seat' asking.only_seat workers
 
-  -- the front's text has a record now
-  pub next_record : new.fault ≡ None → CanGoOn plan old new
-  next_record none =
-      let at : (n : ℕ) × (q : Record) × (record_at n (records_of old.history ++ r ∷ []) ≡ Some q) × (q.text ≡ permit.text) =
-      numbered (records_of old.history ++ r ∷ []) permit.text answer.verdict
-      (verdict_last (records_of old.history) permit.text answer.verdict asking.absent) in (
-        ap plan front,
-        (at.0, (none, (at.1, ap (record_at at.0) records ∙ at.2, ap (λ (s : S). asked (plan s)) front ∙ asking.asks ∙ ap (λ (t : List ℕ). Some t) (sym at.3)))),
-      )
+  -- the front's text has a record then, so fewer moves are left
+  pub fewer_by_answer : Fewer plan old new
+  fewer_by_answer =
+      fewer_by_record plan old new permit.text asking.unstopped (ap plan front) asking.asks asking.absent
+      (ap (λ (o : Option Verdict). is_some o) (ap (λ (rs : List Record). verdict_in rs permit.text) records
+      ∙ verdict_last (records_of old.history) permit.text answer.verdict asking.absent))
 
   -- what holds of the run goes on to hold
   module _ (first : S → Plan) (put : J → Option Put) (faults : J → ℕ) (start : Moment) (log log' : Option Log) (gate_faults gate_faults' : ℕ)
@@ -108,16 +94,24 @@ module _ {S J : Type 0} (plan : S → Plan) (permit : ClaimedText) (answer : Ans
     counts : IsCaused None start.gate_faults gate_faults start.journal_faults (faults old.journal)
     counts = subst (λ (f : Option PoolFault). IsCaused f start.gate_faults gate_faults start.journal_faults (faults old.journal)) asking.unstopped way.caused
 
-    all_before : Has old.start None old.history (put old.journal)
-    all_before = all_written old.start old.fault old.history (put old.journal) asking.unstopped way.written
+    abbrev HasNow : Option PoolFault → History → J → Type 0
+    HasNow fault history journal = Has start.start start.kept fault history (put journal)
 
-    recorded_by : (fault : Option PoolFault) → new.fault ≡ fault → Has old.start fault new.history (put new.journal)
+    all_before : HasNow None old.history old.journal
+    all_before = all_written start.start start.kept old.fault old.history (put old.journal) asking.unstopped way.written
+
+    -- no verdict is kept for it
+    not_kept : is_some (start.kept permit.text) ≡ false
+    not_kept = ap (λ (o : Option Verdict). is_some o) (ap (λ (k : KeptVerdicts). k permit.text) (sym way.same_kept) ∙ asking.unkept)
+
+    recorded_by : (fault : Option PoolFault) → new.fault ≡ fault → HasNow fault new.history new.journal
         → IsUnansweredAt fault (replay start.first new.history) (records_of new.history)
         → IsCaused fault start.gate_faults gate_faults' start.journal_faults (faults new.journal)
         → IsUnderWay start (moment first plan put faults new log' gate_faults') seat'
     recorded_by fault is has waits caused = record {
       same_first = ap first front ∙ way.same_first;
-      same_start = start_same ∙ way.same_start;
+      same_start = ap (λ (state : BoardState S J). state.start) recorded.else_same ∙ way.same_start;
+      same_kept = ap (λ (state : BoardState S J). verdict_in state.kept) recorded.else_same ∙ way.same_kept;
       only_seat = only;
       is_first = workers ∙ way.is_first;
       recorded = ap (λ (state : BoardState S J). state.table.records) recorded.else_same
@@ -126,19 +120,20 @@ module _ {S J : Type 0} (plan : S → Plan) (permit : ClaimedText) (answer : Ans
       distinct =
           subst (λ (rs : List Record). IsDistinct bytes_eq (texts_of rs)) (sym records) (distinct_more (records_of old.history) r way.distinct asking.absent);
       goes_on =
-          subst (GoesOn start.first) (sym history)
-          (goes_record start.first old.history permit.text answer.verdict way.goes_on there (not_among (records_of old.history) permit.text asking.absent));
-      leads_on = subst (LeadsOn start.first) (sym history) (leads_record start.first old.history permit.text answer.verdict way.leads_on);
+          subst (GoesOn start.kept start.first) (sym history)
+          (goes_record start.kept start.first old.history permit.text answer.verdict false not_kept way.goes_on there
+          (not_among (records_of old.history) permit.text asking.absent));
+      leads_on =
+          subst (LeadsOn start.first) (sym history) (leads_record start.kept start.first old.history permit.text answer.verdict false way.leads_on);
       replayed =
-          λ none. ap plan front ∙ way.replayed asking.unstopped ∙ sym (replay_record [] start.first old.history permit.text answer.verdict)
+          λ none. ap plan front ∙ way.replayed asking.unstopped ∙ sym (replay_record [] start.first old.history permit.text answer.verdict false)
           ∙ ap (replay start.first) (sym history);
       waits = subst (λ (f : Option PoolFault). IsUnansweredAt f (replay start.first new.history) (records_of new.history)) (sym is) waits;
-      asked = asks ∙ ap (option_map (with_asked permit.text)) way.asked ∙ one_more start.log (texts_of (records_of old.history)) permit.text
-          ∙ ap (λ (ts : List (List ℕ)). option_map (with_all_asked ts) start.log) (sym (texts_more (records_of old.history) r))
-          ∙ ap (λ (rs : List Record). option_map (with_all_asked (texts_of rs)) start.log) (sym records);
+      asked = asks ∙ ap (option_map (with_asked permit.text)) way.asked ∙ one_more start.log (texts_of (asked_records_of old.history)) permit.text
+          ∙ ap (λ (ts : List (List ℕ)). option_map (with_all_asked ts) start.log) (sym (texts_more (asked_records_of old.history) r))
+          ∙ ap (λ (rs : List Record). option_map (with_all_asked (texts_of rs)) start.log) (sym asked_records);
       caused = subst (λ (f : Option PoolFault). IsCaused f start.gate_faults gate_faults' start.journal_faults (faults new.journal)) (sym is) caused;
-      written = subst (λ (d : Digest). Has d new.fault new.history (put new.journal)) (sym start_same)
-          (subst (λ (f : Option PoolFault). Has old.start f new.history (put new.journal)) (sym is) has);
+      written = subst (λ (f : Option PoolFault). HasNow f new.history new.journal) (sym is) has;
       same_name = name ∙ way.same_name;
     }
 
@@ -148,11 +143,12 @@ module _ {S J : Type 0} (plan : S → Plan) (permit : ClaimedText) (answer : Ans
     record_way same (Ok number) ends failed quiet =
         let written : IsWrittenUnlessBroken put None (event_of answer) old.journal new.journal =
         subst (λ (f : Option PoolFault). IsWrittenUnlessBroken put f (event_of answer) old.journal new.journal) asking.unstopped ends.2 in
-        let has : Has old.start None new.history (put new.journal) =
-        subst (λ (h : History). Has old.start None h (put new.journal)) (sym history_more)
-        (has_more old.start old.history (event_of answer) (put old.journal) (put new.journal) written all_before) in
+        let has : HasNow None new.history new.journal =
+        subst (λ (h : History). HasNow None h new.journal) (sym history_more)
+        (has_more start.start old.kept old.history (event_of answer) (put old.journal) (put new.journal) written all_before) in
         recorded_by None (ends.1 ∙ asking.unstopped) has tt (same ∙ counts.0, quiet ∙ counts.1)
     record_way same (Err fault) ends failed quiet =
-        let has : Has old.start (Some Journal) new.history (put new.journal) =
-        record_broke old.start old.history new.history answer.text answer.verdict (put old.journal) (put new.journal) history_more ends.2 all_before in
+        let has : HasNow (Some Journal) new.history new.journal =
+        record_broke start.start start.kept old.history new.history answer.text answer.verdict (put old.journal) (put new.journal) history_more ends.2
+        all_before in
         recorded_by (Some Journal) ends.1 has tt (same ∙ counts.0, subst (λ (n : ℕ). Rose n (faults new.journal)) counts.1 failed)

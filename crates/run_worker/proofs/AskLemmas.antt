@@ -1,6 +1,6 @@
 -- What holds after a text was claimed, and after it was asked about.
 use Rattle.std.proofs.Common.{◌≡◌, ◌++◌, ◌||◌, ℕ, List, [], ◌∷◌, Bool, true, false, cond, not, find, length, map}
-use Rattle.std.proofs.Common.{take, nat_eq, Option, Some, None, refl, sym, ap, ◌∙◌, subst}
+use Rattle.std.proofs.Common.{take, nat_eq, Option, Some, None, is_some, option_map, refl, sym, ap, ◌∙◌, subst}
 use Rattle.std.proofs.lemmas.Cmp.{nat_eq_equiv}
 use Rattle.std.specs.List.{list_any}
 use Rattle.std.specs.Str.{bytes_eq}
@@ -15,7 +15,7 @@ use Rattle.reduce_step.specs.Plan.{Ask, End, Plan, asked}
 use Rattle.verdict_table.specs.TableState.{texts_of, verdict_in}
 use Rattle.verdict_table.proofs.Lent.{not_among}
 use Rattle.reduce_journal.specs.History.{History, records_of}
-use Rattle.ordered_commit_moves.specs.Moves.{OpenClaim, is_taken, next_text}
+use Rattle.ordered_commit_moves.specs.Moves.{OpenClaim, is_taken, kept_of, kept_record, next_text}
 use Rattle.ordered_commit_moves.specs.Replay.{record_at}
 use Rattle.ordered_commit_moves.proofs.Lent.{numbered}
 use Rattle.ordered_commit.specs.declared.seat.Seat.{Seat}
@@ -59,21 +59,41 @@ module _ {S J : Type 0} (plan : S → Plan) where
   unrecorded_by state text none is settled (Some v) known =
       let at : (n : ℕ) × (r : Record) × (record_at n (records_of state.history) ≡ Some r) × (r.text ≡ text) =
       numbered (records_of state.history) text v known in
-      absurd (settled at.0 (none, (at.1, at.2, is ∙ ap (λ (t : List ℕ). Some t) (sym at.3))))
+      absurd (settled.0 at.0 (none, (at.1, at.2, is ∙ ap (λ (t : List ℕ). Some t) (sym at.3))))
 
   pub unrecorded : (state : BoardState S J) (text : List ℕ) → state.fault ≡ None → asked (plan state.front) ≡ Some text → IsSettled plan state
       → verdict_in (records_of state.history) text ≡ None
   unrecorded state text none is settled = unrecorded_by state text none is settled (verdict_in (records_of state.history) text) refl
 
-  -- a text that no record has is free where no claim is open
+  -- nor a kept verdict, where it has no record: it would be recalled
+  unkept_by : (state : BoardState S J) (text : List ℕ) → state.fault ≡ None → asked (plan state.front) ≡ Some text → IsSettled plan state
+      → verdict_in (records_of state.history) text ≡ None → (o : Option Verdict) → verdict_in state.kept text ≡ o → verdict_in state.kept text ≡ None
+  unkept_by state text none is settled absent None known = known
+  unkept_by state text none is settled absent (Some v) known =
+      absurd (settled.1 (
+        none,
+        (
+          kept_record text v,
+          ap (kept_of (verdict_in state.kept)) is ∙ ap (option_map (kept_record text)) known,
+          not_among (records_of state.history) text absent,
+        ),
+      ))
+
+  pub unkept_asked : (state : BoardState S J) (text : List ℕ) → state.fault ≡ None → asked (plan state.front) ≡ Some text → IsSettled plan state
+      → verdict_in state.kept text ≡ None
+  unkept_asked state text none is settled =
+      unkept_by state text none is settled (unrecorded state text none is settled) (verdict_in state.kept text) refl
+
+  -- a text that has neither is free where no claim is open
   free_text : (state : BoardState S J) (text : List ℕ) → state.table.claims ≡ [] → verdict_in (records_of state.history) text ≡ None
-      → is_taken (core_of plan state) text ≡ false
-  free_text state text no_claims absent =
+      → verdict_in state.kept text ≡ None → is_taken (core_of plan state) text ≡ false
+  free_text state text no_claims absent unkept =
       let apart : list_any (bytes_eq text) (texts_of (records_of state.history)) ≡ false = not_among (records_of state.history) text absent in
+      let no_verdict : is_some (verdict_in state.kept text) ≡ false = ap (λ (o : Option Verdict). is_some o) unkept in
       subst
-      (λ (cs : List Claim). (list_any (bytes_eq text) (texts_of (records_of state.history)) || list_any (bytes_eq text)
-      (map (λ (c : OpenClaim). c.text) (held_claims state.seats cs))) ≡ false) (sym no_claims)
-      (rw apart refl)
+      (λ (cs : List Claim). ((list_any (bytes_eq text) (texts_of (records_of state.history)) || list_any (bytes_eq text)
+      (map (λ (c : OpenClaim). c.text) (held_claims state.seats cs))) || is_some (verdict_in state.kept text)) ≡ false) (sym no_claims)
+      (rw (apart, no_verdict) refl)
 
   -- the text that is claimed is the one that is asked
   pub is_asking : (permit : ClaimedText) (seat seat' : Seat) (old new : BoardState S J) → IsFree seat old → IsSettled plan old
@@ -83,9 +103,10 @@ module _ {S J : Type 0} (plan : S → Plan) where
       subst (λ (ss : List Seat). next_text (length ss) (core_of plan old) ≡ Some permit.text) free.only_seat claimed.moved.0.3 in
       let some = asks_ahead (plan old.front) (is_taken (core_of plan old)) permit.text found in
       let absent = unrecorded old some.0 claimed.unstopped some.1 settled in
+      let unkept = unkept_asked old some.0 claimed.unstopped some.1 settled in
       let no_claims = free.none_open claimed.unstopped in
       let same : permit.text ≡ some.0 =
-      first_ahead (plan old.front) (is_taken (core_of plan old)) permit.text some.0 some.1 (free_text old some.0 no_claims absent) found in
+      first_ahead (plan old.front) (is_taken (core_of plan old)) permit.text some.0 some.1 (free_text old some.0 no_claims absent unkept) found in
       let front : new.front ≡ old.front = ap (λ (state : BoardState S J). state.front) claimed.else_same in
       let history : new.history ≡ old.history = ap (λ (state : BoardState S J). state.history) claimed.else_same in
       let workers : seat'.worker ≡ seat.worker = ap (λ (s : Seat). s.worker) claimed.of_worker in
@@ -98,6 +119,8 @@ module _ {S J : Type 0} (plan : S → Plan) where
             ∙ ap (λ (cs : List Claim). cs ++ record { number = permit.claim; text = permit.text } ∷ []) no_claims;
         asks = ap (λ (s : S). asked (plan s)) front ∙ some.1 ∙ ap (λ (t : List ℕ). Some t) (sym same);
         absent = ap (λ (h : History). verdict_in (records_of h) permit.text) history ∙ ap (verdict_in (records_of old.history)) same ∙ absent;
+        unkept =
+            ap (λ (state : BoardState S J). verdict_in state.kept permit.text) claimed.else_same ∙ ap (verdict_in old.kept) same ∙ unkept;
         holds = claimed.holds;
       }
 
@@ -110,6 +133,7 @@ module _ {S J : Type 0} (first plan : S → Plan) (put : J → Option Put) (faul
       subst (λ (state : BoardState S J). IsUnderWay start (moment first plan put faults state log gate_faults) seat') (sym claimed.else_same) (record {
         same_first = way.same_first;
         same_start = way.same_start;
+        same_kept = way.same_kept;
         only_seat = replaced old.seats seat seat' way.only_seat workers;
         is_first = workers ∙ way.is_first;
         recorded = way.recorded;

@@ -3,8 +3,8 @@ mod BeginLemmas
 mod WrittenLemmas
 mod CallLemmas
 mod AskLemmas
-mod AnswerLemmas
 mod LeftLemmas
+mod AnswerLemmas
 mod NewLemmas
 mod EndLemmas
 pub mod Lent

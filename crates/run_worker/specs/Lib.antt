@@ -1,6 +1,7 @@
 pub use Rattle.reduce_step.specs.Plan
 pub use Rattle.verdict_table.specs.TableState
 pub use Rattle.reduce_journal.specs as ReduceJournal
+pub use Rattle.ordered_commit_moves.specs.Moves
 pub use Rattle.ordered_commit_moves.specs.Replay
 pub use Rattle.ordered_commit.specs.Kept
 pub mod Sequential

@@ -1,5 +1,5 @@
 -- How a run ends, by the fault that ended it, if one did.
-use Rattle.std.specs.Prelude.{◌≡◌, ◌⊎◌, ◌++◌, ◌∷◌, ℕ, List, [], Option, Some, None, IsSome, option_map, take}
+use Rattle.std.specs.Prelude.{◌≡◌, ◌⊎◌, ◌++◌, ◌∷◌, ℕ, List, [], Option, Some, None, IsSome, true, false, option_map, take}
 use Rattle.faults.specs.Count.{Rose}
 use Rattle.edge_io.specs.Sink.{Put, with_piece}
 use Rattle.script_gate_trait.specs.declared.gate.Verdict.{Verdict}
@@ -10,6 +10,7 @@ use Rattle.reduce_journal.specs.declared.event.Event.TheVariants.{Recorded, Comm
 use Rattle.reduce_journal.specs.History.{History, records_of}
 use Rattle.reduce_journal.specs.Journal.{event_text, journal_text}
 use Rattle.reduce_journal.specs.declared.digest.Digest.{Digest}
+use Rattle.ordered_commit_moves.specs.Moves.{KeptVerdicts}
 use Rattle.ordered_commit_moves.specs.Replay.{record_at}
 use Rattle.ordered_commit.specs.declared.fault.PoolFault.{PoolFault}
 use Rattle.ordered_commit.specs.declared.fault.PoolFault.TheVariants.{Script, Journal, Memory}
@@ -40,14 +41,14 @@ HasNothing history old new = (history ≡ []) × (new ≡ old)
 abbrev pub HasSameName : Option Put → Option Put → Type 0
 HasSameName old new = option_map (λ put. put.name) new ≡ option_map (λ put. put.name) old
 
--- A put of the last record failed: the events before it are written, and a part of it.
+-- A put of the last record failed, which was asked: the events before it are written, and a part of it.
 pub record BrokeInRecord (start : Digest) (history : History) (bytes : List ℕ) : Type 0 where
   pub before : History
   pub text : List ℕ
   pub verdict : Verdict
-  pub last : history ≡ before ++ Recorded text verdict ∷ []
+  pub last : history ≡ before ++ Recorded text verdict false ∷ []
   pub part : ℕ
-  pub written : bytes ≡ journal_text start before ++ take part (event_text (Recorded text verdict))
+  pub written : bytes ≡ journal_text start before ++ take part (event_text (Recorded text verdict false))
 
 -- The put of a commit failed, which isn't made then: the whole history is written, and a part of that commit.
 pub record BrokeInCommit (start : Digest) (history : History) (bytes : List ℕ) : Type 0 where
@@ -56,6 +57,14 @@ pub record BrokeInCommit (start : Digest) (history : History) (bytes : List ℕ)
   pub part : ℕ
   pub written : bytes ≡ journal_text start history ++ take part (event_text (Committed number))
 
--- it broke off in the last record, or in a commit after all of the history
-abbrev pub BrokeAtEnd : Digest → History → List ℕ → Type 0
-BrokeAtEnd start history bytes = BrokeInRecord start history bytes ⊎ BrokeInCommit start history bytes
+-- The put of a kept record failed, which isn't made then: the whole history is written, and a part of that record.
+pub record BrokeInRecall (start : Digest) (kept : KeptVerdicts) (history : History) (bytes : List ℕ) : Type 0 where
+  pub text : List ℕ
+  pub verdict : Verdict
+  pub is_kept : kept text ≡ Some verdict
+  pub part : ℕ
+  pub written : bytes ≡ journal_text start history ++ take part (event_text (Recorded text verdict true))
+
+-- it broke off in the last record, or in a commit or a kept record that would come next
+abbrev pub BrokeAtEnd : Digest → KeptVerdicts → History → List ℕ → Type 0
+BrokeAtEnd start kept history bytes = BrokeInRecord start history bytes ⊎ BrokeInCommit start history bytes ⊎ BrokeInRecall start kept history bytes

@@ -2,11 +2,11 @@
 //!
 //! Enter by [`run_alone`]. Read `specs/Sequential.antt` first, what one thread does over given verdicts,
 //! then `specs/RunHistory.antt`, what the history of a run is, and `specs/RunEnds.antt`, how a run ends.
-//! However a run ends, the gate was asked for the texts of its history alone, in their order. So a
-//! reducer runs:
+//! However a run ends, the gate was asked for those texts of its history that have no kept verdict, in
+//! their order, and for no others. So a reducer runs:
 //!
 //! ```
-//! let (board, seats) = Board::new(alloc, reducer, journal, 1, digest_of(start))?;
+//! let (board, seats) = Board::new(alloc, reducer, journal, 1, digest_of(start), Kept::new(alloc))?;
 //! let outcome = run_alone(rt, &texts, board, seats, &mut gate);
 //! match outcome.fault {
 //!     None => println!(rt; "{}", outcome.events.len())?,

@@ -1,12 +1,12 @@
 //! What the worker does in one turn.
 
-ghost use Rattle.std.specs.Prelude.{◌≡◌, ◌⊎◌, ◌<◌, ℕ, None, Option, IsFalse, IsTrue};
+ghost use Rattle.std.specs.Prelude.{◌≡◌, ◌≤◌, ◌<◌, ℕ, None, Option, IsFalse, IsTrue};
 ghost use Rattle.script_gate_trait.specs.declared.log.Log.{Log};
 ghost use Rattle.boxcar.specs.Table.{Shows};
 ghost use Rattle.reduce_step.specs.Plan.{HasEnded};
 ghost use Rattle.ordered_commit.specs.declared.seat.Seat.{Seat as WorkerSeat};
 ghost use Rattle.ordered_commit.specs.BoardState.{IsSettled};
-ghost use Rattle.run_worker.specs.inner.UnderWay.{CanGoOn, IsAsking, IsFree, IsUnderWay, Moment, moment, turns_left};
+ghost use Rattle.run_worker.specs.inner.UnderWay.{IsAsking, IsFree, IsUnderWay, Moment, moment, moves_left};
 
 use edge_io::Sink;
 use gate_permits::{Permit, Texts, ask_once};
@@ -15,17 +15,34 @@ use reduce_step::Step;
 use script_gate_trait::Gate;
 use std::sync::Wait;
 
-/// Answers the front as long as what it asks has a record. An error ends it as well: the board keeps the
-/// fault.
-fn commit_all<S: Step + Drop, G: Gate, J: Sink + Drop>(board: &mut Board<S, G, J>)
+/// Recalls once, or else commits once. False where neither was done: an error ends it as well, whose fault
+/// the board keeps.
+fn recall_or_commit<S: Step + Drop, G: Gate, J: Sink + Drop>(board: &mut Board<S, G, J>) -> bool
+    ensures way { (start : Moment) (seat : WorkerSeat) (log : Option Log) (faults : ℕ)
+        → IsUnderWay start (moment S.first S.plan J.put_so_far J.faults board.old log faults) seat
+        → IsUnderWay start (moment S.first S.plan J.put_so_far J.faults board.new log faults) seat }
+    ensures free { (seat : WorkerSeat) → IsFree seat board.old → IsFree seat board.new }
+    ensures settled { IsFalse result → IsSettled S.plan board.new }
+    ensures most { moves_left S.plan board.new ≤ moves_left S.plan board.old }
+    ensures fewer { IsTrue result → moves_left S.plan board.new < moves_left S.plan board.old }
+{
+    if board.recall().unwrap_or(false) {
+        return true;
+    }
+    board.commit().unwrap_or(false)
+}
+
+/// Recalls what the front asks where a verdict is kept for it, and answers the front as long as what it
+/// asks has a record. An error ends it as well: the board keeps the fault.
+pub(crate) fn commit_all<S: Step + Drop, G: Gate, J: Sink + Drop>(board: &mut Board<S, G, J>)
     ensures way { (start : Moment) (seat : WorkerSeat) (log : Option Log) (faults : ℕ)
         → IsUnderWay start (moment S.first S.plan J.put_so_far J.faults board.old log faults) seat
         → IsUnderWay start (moment S.first S.plan J.put_so_far J.faults board.new log faults) seat }
     ensures free { (seat : WorkerSeat) → IsFree seat board.old → IsFree seat board.new }
     ensures settled { IsSettled S.plan board.new }
-    ensures stops { (board.new ≡ board.old) ⊎ (turns_left board.new.fault (S.plan board.new.front) < turns_left board.old.fault (S.plan board.old.front)) }
+    ensures most { moves_left S.plan board.new ≤ moves_left S.plan board.old }
 {
-    while let Ok(true) = board.commit() {}
+    while recall_or_commit(board) {}
 }
 
 /// Asks the gate about the text that the seat has claimed, and records the answer, or gives the claim up.
@@ -43,7 +60,7 @@ fn ask_and_record<S: Step + Drop, G: Gate, J: Sink + Drop>(
         → IsUnderWay start (moment S.first S.plan J.put_so_far J.faults board.old (G.log gate.old) (G.faults gate.old)) seat.old
         → IsUnderWay start (moment S.first S.plan J.put_so_far J.faults board.new (G.log gate.new) (G.faults gate.new)) seat.new }
     ensures free { IsFree seat.new board.new }
-    ensures next { board.new.fault ≡ None → CanGoOn S.plan board.old board.new }
+    ensures fewer { moves_left S.plan board.new < moves_left S.plan board.old }
 {
     match ask_once(gate, texts, permit) {
         Ok(answer) => {
@@ -69,7 +86,7 @@ pub(crate) fn turn<S: Step + Drop, G: Gate, J: Sink + Drop, W: Wait>(
         → IsUnderWay start (moment S.first S.plan J.put_so_far J.faults board.new (G.log gate.new) (G.faults gate.new)) seat.new }
     ensures free { IsFree seat.new board.new }
     ensures settled { IsSettled S.plan board.new }
-    ensures fewer { IsTrue result → turns_left board.new.fault (S.plan board.new.front) < turns_left board.old.fault (S.plan board.old.front) }
+    ensures fewer { IsTrue result → moves_left S.plan board.new < moves_left S.plan board.old }
     ensures over { IsFalse result → board.new.fault ≡ None → HasEnded (S.plan board.new.front) }
 {
     match board.take(rt, texts, seat) {

@@ -4,6 +4,7 @@ mod hands;
 mod journals;
 mod one_worker;
 mod outcomes;
+mod recalls;
 mod rows;
 mod stops;
 mod two_workers;

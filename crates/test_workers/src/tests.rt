@@ -19,6 +19,7 @@ use std::sync::{Arc, Wait};
 use std::test::Fail;
 use std::thread::Threads;
 use test_gates::{HoldCount, HoldGate};
+use verdict_table::Kept;
 use worker_pool::{Worker, run_workers};
 
 /// What is reduced.
@@ -50,6 +51,17 @@ fn run_of<G: Gate + Send, W: Threads + Wait + Sync>(
     workers: &mut Vec<Worker<G>>,
     fail: &[u64],
 ) -> Result<Came, Fail> {
+    run_with(rt, alloc, workers, fail, Kept::new(alloc))
+}
+
+/// What they come to with these kept verdicts.
+fn run_with<G: Gate + Send, W: Threads + Wait + Sync>(
+    rt: &W,
+    alloc: Global,
+    workers: &mut Vec<Worker<G>>,
+    fail: &[u64],
+    kept: Kept,
+) -> Result<Came, Fail> {
     let count = workers.len();
     if START.len() > TEXT_LIMIT || count == 0 || count > 16 {
         return Err("1 to 16 workers and a start of few bytes")?;
@@ -61,7 +73,7 @@ fn run_of<G: Gate + Send, W: Threads + Wait + Sync>(
     let reducer = line_reducer(alloc, START, &guard)?;
     let journal = MemSink::new(alloc, 10000, Vec::from_slice(alloc, fail)?)?;
     let start = digest_of(START);
-    let Ok((board, seats)) = Board::new(alloc, reducer, journal, count as u32, start) else {
+    let Ok((board, seats)) = Board::new(alloc, reducer, journal, count as u32, start, kept) else {
         return Err("a board")?;
     };
     let outcome = run_workers(rt, board, seats, workers);
@@ -77,7 +89,7 @@ fn run_of<G: Gate + Send, W: Threads + Wait + Sync>(
 fn record_of(events: &[Event], number: u64) -> Option<(&[u8], Verdict)> {
     let mut count: u64 = 0;
     for event in events {
-        if let Event::Recorded { text, verdict } = event {
+        if let Event::Recorded { text, verdict, .. } = event {
             count = count.saturating_add(1);
             if count == number {
                 return Some((text.as_slice(), *verdict));
@@ -136,31 +148,41 @@ fn answers_of(alloc: Global, events: &[Event]) -> Result<Vec<u8>, Fail> {
 fn is_same(event: &Event, other: &Event) -> bool {
     match (event, other) {
         (
-            Event::Recorded { text, verdict },
+            Event::Recorded {
+                text,
+                verdict,
+                kept,
+            },
             Event::Recorded {
                 text: same,
                 verdict: said,
+                kept: was_kept,
             },
-        ) => { text.as_slice() == same.as_slice() && *verdict == *said }
+        ) => { text.as_slice() == same.as_slice() && *verdict == *said && *kept == *was_kept }
         (Event::Committed { number }, Event::Committed { number: same }) => *number == *same,
         _ => false,
     }
 }
 
-/// Whether the journal can be read, its last event is whole, and its events are those of the outcome.
-fn is_journal(alloc: Global, came: &Came) -> bool {
-    let Ok(read) = read_journal(alloc, &came.journal) else {
-        return false;
-    };
-    if read.torn != 0 || read.events.len() != came.events.len() {
+/// Whether these events are the same.
+fn are_same(events: &[Event], others: &[Event]) -> bool {
+    if events.len() != others.len() {
         return false;
     }
-    for (event, other) in read.events.iter().zip(came.events.iter()) {
+    for (event, other) in events.iter().zip(others.iter()) {
         if !is_same(event, other) {
             return false;
         }
     }
     true
+}
+
+/// Whether the journal can be read, its last event is whole, and its events are those of the outcome.
+fn is_journal(alloc: Global, came: &Came) -> bool {
+    match read_journal(alloc, &came.journal) {
+        Ok(read) => read.torn == 0 && are_same(&read.events, &came.events),
+        Err(_) => false,
+    }
 }
 
 /// So many workers, whose gates say yes where there is a `b`.
@@ -336,6 +358,156 @@ fn stops_with_the_journal<W: Threads + Wait + Sync>(
 fn stops_where_the_journal_breaks_off(rt: HostRuntime) -> Result<(), Fail> {
     for count in [1, 2, 4, 16] {
         assert!(rt; stops_with_the_journal(&rt, rt.alloc(), count)?);
+    }
+    Ok(())
+}
+
+/// So many workers, whose gates fail at each ask.
+fn failing(alloc: Global, count: u32) -> Result<Vec<Worker<ListGate>>, Fail> {
+    let mut workers = Vec::new(alloc);
+    for earlier in 0..count {
+        let gate = ListGate::new(alloc, Vec::new(alloc), Said::Fail);
+        workers.push(Worker::new(gate, earlier + 1))?;
+    }
+    Ok(workers)
+}
+
+/// The verdicts of a journal.
+fn kept_in(alloc: Global, journal: &[u8]) -> Result<Kept, Fail> {
+    Ok(read_journal(alloc, journal)?.kept(alloc)?)
+}
+
+/// A journal of version 1 with the events of this one of version 2.
+fn in_version_1(alloc: Global, journal: &[u8]) -> Result<Vec<u8>, Fail> {
+    let Some(events) = journal.get(84..) else {
+        return Err("a head of 84 bytes")?;
+    };
+    let mut bytes = Vec::from_slice(alloc, b"perses-journal 1\n")?;
+    bytes.extend_from_slice(events)?;
+    Ok(bytes)
+}
+
+/// Whether a record is kept exactly where an earlier run's journal has its text, and then with that verdict.
+fn are_kept_from(earlier: &Kept, events: &[Event]) -> bool {
+    for event in events {
+        if let Event::Recorded {
+            text,
+            verdict,
+            kept,
+        } = event
+        {
+            let known = earlier.find(text.as_slice());
+            if *kept != known.is_some() || (*kept && known != Some(*verdict)) {
+                return false;
+            }
+        }
+    }
+    true
+}
+
+/// How many records are kept.
+fn kept_count(events: &[Event]) -> u64 {
+    let mut count: u64 = 0;
+    for event in events {
+        if matches!(event, Event::Recorded { kept: true, .. }) {
+            count = count.saturating_add(1);
+        }
+    }
+    count
+}
+
+/// Whether so many workers with the verdicts of a whole run ask nothing, and come to the same with these
+/// answers.
+fn resumes_without_an_ask<W: Threads + Wait + Sync>(
+    rt: &W,
+    alloc: Global,
+    count: u32,
+    journal: &[u8],
+    answers: &[u8],
+) -> Result<bool, Fail> {
+    let mut workers = failing(alloc, count)?;
+    let came = run_with(rt, alloc, &mut workers, &[], kept_in(alloc, journal)?)?;
+    Ok(
+        is_whole(alloc, &came, answers)?
+            && asked_in_order(&workers) == 0
+            && kept_count(&came.events) == record_count(&came.events, None)
+            && are_kept_from(&kept_in(alloc, journal)?, &came.events),
+    )
+}
+
+#[test]
+fn asks_nothing_that_is_kept(rt: HostRuntime) -> Result<(), Fail> {
+    let whole = run_of(&rt, rt.alloc(), &mut by_rule(rt.alloc(), 4)?, &[])?;
+    let answers = answers_of(rt.alloc(), &whole.events)?;
+    let first = in_version_1(rt.alloc(), &whole.journal)?;
+    for count in [1, 2, 4, 16] {
+        assert!(rt; resumes_without_an_ask(&rt, rt.alloc(), count, &whole.journal, &answers)?);
+        assert!(rt; resumes_without_an_ask(&rt, rt.alloc(), count, &first, &answers)?);
+    }
+    Ok(())
+}
+
+/// Whether so many workers with the verdicts of this journal, in which all are kept, ask nothing and stop
+/// where the put of this number fails: with a beginning of it, and the events that are whole there.
+fn stops_in_a_recall<W: Threads + Wait + Sync>(
+    rt: &W,
+    alloc: Global,
+    count: u32,
+    put: u64,
+    journal: &[u8],
+) -> Result<bool, Fail> {
+    let mut workers = failing(alloc, count)?;
+    let came = run_with(rt, alloc, &mut workers, &[put], kept_in(alloc, journal)?)?;
+    let read = read_journal(alloc, &came.journal)?;
+    Ok(
+        came.fault == Some(PoolFault::Journal)
+            && journal.starts_with(came.journal.as_slice())
+            && are_same(&read.events, &came.events)
+            && asked_in_order(&workers) == 0,
+    )
+}
+
+#[test]
+fn stops_where_a_recall_breaks_off(rt: HostRuntime) -> Result<(), Fail> {
+    let whole = run_of(&rt, rt.alloc(), &mut by_rule(rt.alloc(), 1)?, &[])?;
+    let kept = kept_in(rt.alloc(), &whole.journal)?;
+    let recalled = run_with(&rt, rt.alloc(), &mut failing(rt.alloc(), 1)?, &[], kept)?;
+    for put in 2..15 {
+        for count in [1, 2, 16] {
+            assert!(rt; stops_in_a_recall(&rt, rt.alloc(), count, put, &recalled.journal)?);
+        }
+    }
+    Ok(())
+}
+
+/// Whether so many workers go on where the journal of a run broke off, ask once for each record that isn't
+/// kept, and come to the same with these answers.
+fn goes_on_after<W: Threads + Wait + Sync>(
+    rt: &W,
+    alloc: Global,
+    count: u32,
+    put: u64,
+    answers: &[u8],
+) -> Result<bool, Fail> {
+    let broken = run_of(rt, alloc, &mut by_rule(alloc, count)?, &[put])?;
+    let kept = kept_in(alloc, &broken.journal)?;
+    let mut workers = by_rule(alloc, count)?;
+    let came = run_with(rt, alloc, &mut workers, &[], kept)?;
+    let records = record_count(&came.events, None);
+    Ok(
+        is_whole(alloc, &came, answers)?
+            && records == asked_by_rule(&workers).saturating_add(kept_count(&came.events))
+            && are_kept_from(&kept_in(alloc, &broken.journal)?, &came.events),
+    )
+}
+
+#[test]
+fn resumes_what_another_run_left(rt: HostRuntime) -> Result<(), Fail> {
+    let answers = answers_alone(&rt, rt.alloc())?;
+    for put in [2, 7, 12, 30] {
+        for count in [1, 2, 16] {
+            assert!(rt; goes_on_after(&rt, rt.alloc(), count, put, &answers)?);
+        }
     }
     Ok(())
 }

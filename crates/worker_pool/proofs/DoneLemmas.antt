@@ -8,7 +8,7 @@ use Rattle.faults.specs.Count.{Rose}
 use Rattle.script_gate_trait.specs.declared.log.Log.{Log}
 use Rattle.verdict_table.specs.declared.record.Record.{Record}
 use Rattle.verdict_table.specs.TableState.{texts_of}
-use Rattle.reduce_journal.specs.History.{History, records_of}
+use Rattle.reduce_journal.specs.History.{History, asked_records_of}
 use Rattle.ordered_commit.specs.declared.fault.PoolFault.{PoolFault}
 use Rattle.ordered_commit.specs.declared.fault.PoolFault.TheVariants.{Memory, Script}
 use Rattle.ordered_commit.specs.declared.seat.Seat.{Seat}
@@ -124,7 +124,7 @@ module _ {G : Type 0} (log : G → Option Log) (faults : G → ℕ) where
     one_each = length-map (new_seats (length workers)) (λ (s : Seat). s.records) ∙ new_length (length workers);
     lengths = refl;
     each = λ i d less. none_at workers i d less (unseated i d less);
-    total = new_counted (length workers) ∙ ap (λ (h : History). length (records_of h)) (sym none);
+    total = new_counted (length workers) ∙ ap (λ (h : History). length (asked_records_of h)) (sym none);
     named = λ worker is. absurd (cc is);
   }
 
@@ -143,7 +143,7 @@ module _ {G : Type 0} (log : G → Option Log) (faults : G → ℕ) where
     }
     only_at w (suc i) d unseated asked rose quiet less = let no : ⊥ = omega (arith, less) in absurd no
 
-    pub only_done : (workers : List (Worker G)) (d : Worker G) (history : History) → records_of history ≡ records → length workers ≡ 1
+    pub only_done : (workers : List (Worker G)) (d : Worker G) (history : History) → asked_records_of history ≡ records → length workers ≡ 1
         → All (λ w. w.seat ≡ None) workers
         → log gate' ≡ option_map (with_all_asked (texts_of records)) (log (slice_index_or workers 0 d).gate)
         → (fault ≡ Some (Script 1) → Rose (faults (slice_index_or workers 0 d).gate) (faults gate'))

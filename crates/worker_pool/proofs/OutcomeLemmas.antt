@@ -31,8 +31,8 @@ use Rattle.worker_pool.proofs.DoneLemmas.{gone_on}
 -- ---- a new board
 
 module _ {S J : Type 0} (plan first : S → Plan) (may_say : List ℕ → Verdict → Type 0) (put : J → Option Put) (faults : J → ℕ) (n : ℕ) (state : BoardState S J)
-    (start : Digest) (front : S) (journal : J)
-    (kept : IsKept plan first may_say put faults state) (is : state ≡ new_board n start front journal) where
+    (start : Digest) (verdicts : List Record) (front : S) (journal : J)
+    (kept : IsKept plan first may_say put faults state) (is : state ≡ new_board n start verdicts front journal) where
   unstopped : state.fault ≡ None
   unstopped = ap (λ (s : BoardState S J). s.fault) is
 

@@ -13,7 +13,7 @@ use Rattle.script_gate_trait.specs.declared.gate.GateFault.TheVariants as gate
 use Rattle.gate_permits.specs.Permits.{AnsweredText}
 use Rattle.script_gate_trait.specs.declared.gate.Verdict.{Verdict}
 use Rattle.reduce_step.specs.Plan.{Plan}
-use Rattle.verdict_table.specs.TableState.{text_claimed}
+use Rattle.verdict_table.specs.TableState.{TableState, text_claimed}
 use Rattle.ordered_commit.specs.declared.fault.PoolFault.{PoolFault}
 use Rattle.ordered_commit.specs.declared.fault.PoolFault.TheVariants.{Journal, Memory, Script}
 use Rattle.ordered_commit.specs.declared.fault.BoardFault.{BoardFault}
@@ -27,12 +27,13 @@ use Rattle.ordered_commit.specs.Faults.{ask_fault, kept_fault}
 use Rattle.ordered_commit.specs.BoardState.{BoardState, IsSettled}
 use Rattle.ordered_commit.specs.Kept.{IsKept}
 use Rattle.ordered_commit.specs.CommitEnds.{CommitEnds}
+use Rattle.ordered_commit.specs.RecallEnds.{RecallEnds, with_kept_record}
 use Rattle.ordered_commit.specs.TakeEnds.{TakeEnds, with_claimed}
 use Rattle.ordered_commit.specs.RecordEnds.{IsRecorded, RecordEnds}
 use Rattle.ordered_commit.specs.Writes.{HasSameName}
 use Rattle.worker_pool.specs.Runs.{RunMembers}
 use Rattle.worker_pool.specs.inner.Runs.{AtStart, IsOfRun}
-use Rattle.worker_pool.proofs.StartLemmas.{record_alone, taken_alone}
+use Rattle.worker_pool.proofs.StartLemmas.{recalled_alone, record_alone, taken_alone}
 
 -- a fault of an ask that is kept isn't one of the journal, and takes the place of none
 kept_is : (o : Option PoolFault) (worker : ℕ) (fault : GateFault) → Some (kept_fault o (ask_fault worker fault)) ≡ Some Journal → o ≡ Some Journal
@@ -79,13 +80,15 @@ same_length seat seats = length-map seats (λ (s : Seat). if nat_eq s.worker sea
 module _ {S J : Type 0} (first plan : S → Plan) (put : J → Option Put) (faults : J → ℕ) (run : RunMembers) (old new : BoardState S J)
     (of_run : IsOfRun first put faults run old) where
   -- nothing that it says changes
-  still : new.start ≡ old.start → first new.front ≡ first old.front → HasSameName put old.journal new.journal → length new.seats ≡ length old.seats
+  still : new.start ≡ old.start → new.kept ≡ old.kept → first new.front ≡ first old.front → HasSameName put old.journal new.journal
+      → length new.seats ≡ length old.seats
       → faults new.journal ≡ faults old.journal
       → (new.fault ≡ Some Journal → old.fault ≡ Some Journal) → (old.fault ≡ Some Journal → new.fault ≡ Some Journal) → AtStart run.first new.table
       → (new.fault ≡ None → Unfailed new.seats) → IsOfRun first put faults run new
-  still digest front name seats count only also start unfailed = record {
+  still digest verdicts front name seats count only also start unfailed = record {
     same_first = front ∙ of_run.same_first;
     same_digest = digest ∙ of_run.same_digest;
+    same_kept = verdicts ∙ of_run.same_kept;
     same_name = name ∙ of_run.same_name;
     all_seats = seats ∙ of_run.all_seats;
     start = start;
@@ -95,12 +98,14 @@ module _ {S J : Type 0} (first plan : S → Plan) (put : J → Option Put) (faul
   }
 
   -- the journal broke
-  broke : new.start ≡ old.start → first new.front ≡ first old.front → HasSameName put old.journal new.journal → length new.seats ≡ length old.seats
+  broke : new.start ≡ old.start → new.kept ≡ old.kept → first new.front ≡ first old.front → HasSameName put old.journal new.journal
+      → length new.seats ≡ length old.seats
       → old.fault ≢ Some Journal → new.fault ≡ Some Journal → Rose (faults old.journal) (faults new.journal) → AtStart run.first new.table
       → IsOfRun first put faults run new
-  broke digest front name seats before is rose start = record {
+  broke digest verdicts front name seats before is rose start = record {
     same_first = front ∙ of_run.same_first;
     same_digest = digest ∙ of_run.same_digest;
+    same_kept = verdicts ∙ of_run.same_kept;
     same_name = name ∙ of_run.same_name;
     all_seats = seats ∙ of_run.all_seats;
     start = start;
@@ -119,25 +124,55 @@ module _ {S J : Type 0} (first plan : S → Plan) (put : J → Option Put) (faul
     not_before is = absurd (cc (sym none ∙ is))
 
   pub run_commit : (result : Result Bool BoardFault) → CommitEnds plan put result old new → new.seats ≡ old.seats → new.start ≡ old.start
-      → first new.front ≡ first old.front
+      → new.kept ≡ old.kept → first new.front ≡ first old.front
       → HasSameName put old.journal new.journal → new.table ≡ old.table
       → (result ≡ Err board.Journal → Rose (faults old.journal) (faults new.journal)) → (result ≢ Err board.Journal → faults new.journal ≡ faults old.journal)
       → IsOfRun first put faults run new
-  run_commit (Ok true) ends seats digest front name table failed quiet =
-      still digest front name (ap length seats) (quiet (λ is. cc is)) (λ is. absurd (cc (sym ends.fault ∙ is))) (λ is. absurd (not_before ends.could.0 is))
-      (same_start table) (λ _. subst Unfailed (sym seats) (of_run.unfailed ends.could.0))
-  run_commit (Ok false) ends seats digest front name table failed quiet = subst (IsOfRun first put faults run) (sym ends.1) of_run
-  run_commit (Err board.Journal) ends seats digest front name table failed quiet =
-      broke digest front name (ap length seats) (not_before ends.could.0) (ap (λ (state : BoardState S J). state.fault) ends.else_same) (failed refl)
+  run_commit (Ok true) ends seats digest verdicts front name table failed quiet =
+      still digest verdicts front name (ap length seats) (quiet (λ is. cc is)) (λ is. absurd (cc (sym ends.fault ∙ is)))
+      (λ is. absurd (not_before ends.could.0 is)) (same_start table) (λ _. subst Unfailed (sym seats) (of_run.unfailed ends.could.0))
+  run_commit (Ok false) ends seats digest verdicts front name table failed quiet = subst (IsOfRun first put faults run) (sym ends.1) of_run
+  run_commit (Err board.Journal) ends seats digest verdicts front name table failed quiet =
+      broke digest verdicts front name (ap length seats) (not_before ends.could.0) (ap (λ (state : BoardState S J). state.fault) ends.else_same) (failed refl)
       (same_start table)
-  run_commit (Err board.Memory) (inl ends) seats digest front name table failed quiet =
+  run_commit (Err board.Memory) (inl ends) seats digest verdicts front name table failed quiet =
       let is : new.fault ≡ Some Memory = ap (λ (state : BoardState S J). state.fault) ends.else_same in
-      still digest front name (ap length seats) (quiet (λ is. cc is)) (λ j. absurd (cc (sym is ∙ j))) (λ j. absurd (not_before ends.could.0 j))
+      still digest verdicts front name (ap length seats) (quiet (λ is. cc is)) (λ j. absurd (cc (sym is ∙ j))) (λ j. absurd (not_before ends.could.0 j))
       (same_start table)
       (λ none. absurd (cc (sym is ∙ none)))
-  run_commit (Err board.Memory) (inr ends) seats digest front name table failed quiet =
-      still digest front name (ap length seats) (quiet (λ is. cc is)) (λ j. absurd (cc (sym ends.fault ∙ j))) (λ j. absurd (not_before ends.could.0 j))
+  run_commit (Err board.Memory) (inr ends) seats digest verdicts front name table failed quiet =
+      still digest verdicts front name (ap length seats) (quiet (λ is. cc is)) (λ j. absurd (cc (sym ends.fault ∙ j))) (λ j. absurd (not_before ends.could.0 j))
       (same_start table) (λ none. absurd (cc (sym ends.fault ∙ none)))
+
+  -- a recall
+  pub run_recall : (may_say : List ℕ → Verdict → Type 0) → IsKept plan first may_say put faults old → (result : Result Bool BoardFault)
+      → RecallEnds plan put result old new → HasSameName put old.journal new.journal
+      → (result ≡ Err board.Journal → Rose (faults old.journal) (faults new.journal)) → (result ≢ Err board.Journal → faults new.journal ≡ faults old.journal)
+      → IsOfRun first put faults run new
+  run_recall may_say kept (Ok true) ends name failed quiet =
+      let same = ends.else_same in
+      let no_fault : new.fault ≡ None = ap (λ (state : BoardState S J). state.fault) same ∙ ends.could.0 in
+      let start : AtStart run.first new.table =
+      subst (λ (table : TableState). AtStart run.first table) (sym (ap (λ (state : BoardState S J). state.table) same))
+      (subst (λ (p : Plan). AtStart p (with_kept_record ends.kept old.table)) of_run.same_first
+      (λ ended. recalled_alone plan first may_say put faults old kept ends.kept ends.could ends.found ended)) in
+      still (ap (λ (state : BoardState S J). state.start) same) (ap (λ (state : BoardState S J). state.kept) same)
+      (ap (λ (state : BoardState S J). first state.front) same) name (ap (λ (state : BoardState S J). length state.seats) same) (quiet (λ is. cc is))
+      (λ is. absurd (cc (sym no_fault ∙ is))) (λ is. absurd (not_before ends.could.0 is)) start
+      (λ _. subst Unfailed (sym (ap (λ (state : BoardState S J). state.seats) same)) (of_run.unfailed ends.could.0))
+  run_recall may_say kept (Ok false) ends name failed quiet = subst (IsOfRun first put faults run) (sym ends.1) of_run
+  run_recall may_say kept (Err board.Journal) ends name failed quiet =
+      let same = ends.else_same in
+      broke (ap (λ (state : BoardState S J). state.start) same) (ap (λ (state : BoardState S J). state.kept) same)
+      (ap (λ (state : BoardState S J). first state.front) same) name (ap (λ (state : BoardState S J). length state.seats) same) (not_before ends.could.0)
+      (ap (λ (state : BoardState S J). state.fault) same) (failed refl) (same_start (ap (λ (state : BoardState S J). state.table) same))
+  run_recall may_say kept (Err board.Memory) ends name failed quiet =
+      let same = ends.1 in
+      let is : new.fault ≡ Some Memory = ap (λ (state : BoardState S J). state.fault) same in
+      still (ap (λ (state : BoardState S J). state.start) same) (ap (λ (state : BoardState S J). state.kept) same)
+      (ap (λ (state : BoardState S J). first state.front) same) name (ap (λ (state : BoardState S J). length state.seats) same) (quiet (λ j. cc j))
+      (λ j. absurd (cc (sym is ∙ j))) (λ j. absurd (not_before ends.0.0 j)) (same_start (ap (λ (state : BoardState S J). state.table) same))
+      (λ none. absurd (cc (sym is ∙ none)))
 
   pub run_take : (may_say : List ℕ → Verdict → Type 0) → IsKept plan first may_say put faults old → IsSettled plan old → (seat seat' : Seat)
       → Agrees old.seats seat → (result : Result Take OutOfMemory) → TakeEnds plan result seat seat' old new → IsOfRun first put faults run new
@@ -147,6 +182,7 @@ module _ {S J : Type 0} (first plan : S → Plan) (put : J → Option Put) (faul
   run_take may_say kept settled seat seat' agrees (Ok (Work permit)) ends = subst (IsOfRun first put faults run) (sym ends.else_same) (record {
     same_first = of_run.same_first;
     same_digest = of_run.same_digest;
+    same_kept = of_run.same_kept;
     same_name = of_run.same_name;
     all_seats = same_length seat' old.seats ∙ of_run.all_seats;
     start =
@@ -161,6 +197,7 @@ module _ {S J : Type 0} (first plan : S → Plan) (put : J → Option Put) (faul
   run_take may_say kept settled seat seat' agrees (Err memory) ends = subst (IsOfRun first put faults run) (sym ends.3) (record {
     same_first = of_run.same_first;
     same_digest = of_run.same_digest;
+    same_kept = of_run.same_kept;
     same_name = of_run.same_name;
     all_seats = of_run.all_seats;
     start = of_run.start;
@@ -181,23 +218,26 @@ module _ {S J : Type 0} (first plan : S → Plan) (put : J → Option Put) (faul
       → OnErr result (Rose (faults old.journal) (faults new.journal)) → OnOk result (faults new.journal ≡ faults old.journal) → IsOfRun first put faults run new
   run_record answer seat seat' agrees (Ok number) opened recorded ends name failed quiet =
       let digest = ap (λ (state : BoardState S J). state.start) recorded.else_same in
+      let verdicts = ap (λ (state : BoardState S J). state.kept) recorded.else_same in
       let front = ap (λ (state : BoardState S J). first state.front) recorded.else_same in
       let seats = ap (λ (state : BoardState S J). length state.seats) recorded.else_same ∙ same_length seat' old.seats in
-      still digest front name seats quiet (λ is. sym ends.1 ∙ is) (λ is. ends.1 ∙ is) (more_start answer seat seat' opened recorded)
+      still digest verdicts front name seats quiet (λ is. sym ends.1 ∙ is) (λ is. ends.1 ∙ is) (more_start answer seat seat' opened recorded)
       (λ none. let before = of_run.unfailed (sym ends.1 ∙ none) in
       subst Unfailed (sym (ap (λ (state : BoardState S J). state.seats) recorded.else_same))
       (with_unfailed seat' old.seats (ap (λ (s : Seat). s.failed) recorded.of_worker ∙ own_unfailed seat old.seats agrees before) before))
   run_record answer seat seat' agrees (Err fault) opened recorded ends name failed quiet =
       let digest = ap (λ (state : BoardState S J). state.start) recorded.else_same in
+      let verdicts = ap (λ (state : BoardState S J). state.kept) recorded.else_same in
       let front = ap (λ (state : BoardState S J). first state.front) recorded.else_same in
       let seats = ap (λ (state : BoardState S J). length state.seats) recorded.else_same ∙ same_length seat' old.seats in
-      broke digest front name seats ends.0 ends.1 failed (more_start answer seat seat' opened recorded)
+      broke digest verdicts front name seats ends.0 ends.1 failed (more_start answer seat seat' opened recorded)
 
   pub run_give_up : (seat' : Seat) (worker : ℕ) (fault : GateFault)
       → new ≡ record old { seats = with_seat seat' old.seats; fault = Some (kept_fault old.fault (ask_fault worker fault)) } → IsOfRun first put faults run new
   run_give_up seat' worker fault is = subst (IsOfRun first put faults run) (sym is) (record {
     same_first = of_run.same_first;
     same_digest = of_run.same_digest;
+    same_kept = of_run.same_kept;
     same_name = of_run.same_name;
     all_seats = same_length seat' old.seats ∙ of_run.all_seats;
     start = of_run.start;

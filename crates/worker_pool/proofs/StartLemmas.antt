@@ -17,16 +17,19 @@ use Rattle.verdict_table.specs.declared.table.Claim.{Claim}
 use Rattle.verdict_table.specs.TableState.{TableState, all_texts, claimed_texts, other_claims, text_claimed, texts_of, verdict_in}
 use Rattle.verdict_table.proofs.Lent.{extends_itself, absent_everywhere}
 use Rattle.reduce_journal.specs.History.{records_of}
+use Rattle.ordered_commit_moves.specs.Moves.{kept_of}
 use Rattle.ordered_commit_moves.specs.Replay.{replay}
+use Rattle.ordered_commit_moves.proofs.Lent.{kept_found}
 use Rattle.ordered_commit.specs.declared.seat.Seat.{Seat}
-use Rattle.ordered_commit.specs.BoardState.{BoardState, IsSettled}
-use Rattle.ordered_commit.specs.inner.Claiming.{is_absent}
+use Rattle.ordered_commit.specs.BoardState.{BoardState, CanRecall, IsSettled}
+use Rattle.ordered_commit.specs.inner.Claiming.{is_free}
 use Rattle.ordered_commit.specs.Kept.{BeginsWithin, IsKept}
+use Rattle.ordered_commit.specs.RecallEnds.{with_kept_record}
 use Rattle.ordered_commit.specs.RecordEnds.{with_filled}
 use Rattle.ordered_commit.specs.TakeEnds.{IsClaimed, with_claimed}
-use Rattle.ordered_commit.proofs.Lent.{leads_on, absent_found, find_passes, next_free, nothing_committed}
+use Rattle.ordered_commit.proofs.Lent.{leads_on, find_passes, first_absent, next_free, nothing_committed}
 use Rattle.run_worker.specs.RunHistory.{BeginsWith, EndsAtFirst}
-use Rattle.run_worker.proofs.Lent.{unrecorded}
+use Rattle.run_worker.proofs.Lent.{no_verdict_of, unrecorded}
 use Rattle.worker_pool.specs.inner.Runs.{AtStart, StartsAlone}
 
 -- ---- what is ahead of such a reducer
@@ -71,6 +74,31 @@ pub begins_with : (m : ℕ) (p : Plan) (rs : List Record) → HasEnded (after p 
 begins_with m p [] ended begins = tt
 begins_with m p (r ∷ rs) ended begins = first_is m p r.text ended begins
 
+-- ---- a text that is asked later
+
+-- after a first record that ends the reducer no text is asked that has no record
+module _ {S J : Type 0} (plan first : S → Plan) (may_say : List ℕ → Verdict → Type 0) (put : J → Option Put) (faults : J → ℕ) (state : BoardState S J)
+    (kept : IsKept plan first may_say put faults state) (ended : HasEnded (after (first state.front) No)) (unstopped : state.fault ≡ None)
+    (text : List ℕ) (is_asked : asked (plan state.front) ≡ Some text) (unknown : verdict_in (records_of state.history) text ≡ None) where
+  over_before : (r : Record) (rs : List Record) → state.table.records ≡ r ∷ rs → HasEnded (after (first state.front) r.verdict) → ⊥
+  over_before r rs is over =
+      let start : Plan = first state.front in
+      let many : ℕ = 2 * length state.seats in
+      let records : records_of state.history ≡ r ∷ rs = sym kept.recorded.recorded ∙ is in
+      let V : List ℕ → Option Verdict = verdict_in (records_of state.history) in
+      let waits : follow V (plan state.front) ≡ plan state.front = stays V (plan state.front) text is_asked unknown in
+      let leads : follow V start ≡ follow V (replay start state.history) =
+      leads_on V [] start state.history kept.recorded.legal.commits (extends_itself (records_of state.history) kept.recorded.legal.distinct) in
+      let there : follow V start ≡ plan state.front = leads ∙ ap (follow V) (sym (kept.replayed unstopped)) ∙ waits in
+      let begins : Contains (ahead many start) r.text = subst (λ (qs : List Record). BeginsWithin (ahead many start) qs state.table.claims) is kept.begins in
+      let first_text : asked start ≡ Some r.text = first_is many start r.text ended begins in
+      let at_text : verdict_in (r ∷ rs) r.text ≡ Some r.verdict = rw (nat_list_eq_equiv.refl r.text) refl in
+      let known : V r.text ≡ Some r.verdict = ap (λ (qs : List Record). verdict_in qs r.text) records ∙ at_text in
+      let ends : follow V start ≡ after start r.verdict =
+      follow_after V start r.verdict r.text first_text known ∙ follow_ended V (after start r.verdict) over in
+      let nothing : Some text ≡ None = sym is_asked ∙ ap asked (sym there ∙ ends) ∙ over in
+      cc nothing
+
 -- ---- a claim
 
 -- no text that is ahead is free while another has a claim
@@ -96,11 +124,11 @@ module _ {S J : Type 0} (plan first : S → Plan) (may_say : List ℕ → Verdic
   abbrev texts : List (List ℕ)
   texts = ahead many (plan state.front)
 
-  found : find (is_absent state.table) texts ≡ Some permit.text
+  found : find (is_free state.kept state.table) texts ≡ Some permit.text
   found = sym (next_free plan first may_say put faults state kept claimed.unstopped) ∙ claimed.moved.0.3
 
-  passes : Contains texts permit.text × (is_absent state.table permit.text ≡ true)
-  passes = find_passes (Contains texts) (is_absent state.table) texts permit.text found (All-contains_itself texts)
+  passes : Contains texts permit.text × (is_free state.kept state.table permit.text ≡ true)
+  passes = find_passes (Contains texts) (is_free state.kept state.table) texts permit.text found (All-contains_itself texts)
 
   -- before the first record
   at_first : state.table.records ≡ [] → state.table.claims ≡ []
@@ -111,7 +139,7 @@ module _ {S J : Type 0} (plan first : S → Plan) (may_say : List ℕ → Verdic
       let begins : All (λ (c : Claim). Contains (ahead many start) c.text) state.table.claims =
       subst (λ (rs : List Record). BeginsWithin (ahead many start) rs state.table.claims) none kept.begins in
       let free : list_any (bytes_eq permit.text) (all_texts state.table) ≡ false =
-      absent_everywhere state.table permit.text kept.recorded.sound (absent_found state.table permit.text passes.1) in
+      absent_everywhere state.table permit.text kept.recorded.sound (first_absent state.kept state.table texts permit.text found) in
       let among : list_any (bytes_eq permit.text) (claimed_texts state.table.claims) ≡ false =
       subst (λ (rs : List Record). list_any (bytes_eq permit.text) (texts_of rs ++ claimed_texts state.table.claims) ≡ false) none free in
       none_before many start permit.text state.table.claims ended (first_is many start permit.text ended here) begins among
@@ -119,22 +147,9 @@ module _ {S J : Type 0} (plan first : S → Plan) (may_say : List ℕ → Verdic
   -- after one that ends the reducer there is no claim
   none_after : (r : Record) (rs : List Record) → state.table.records ≡ r ∷ rs → HasEnded (after start r.verdict) → ⊥
   none_after r rs is over =
-      let records : records_of state.history ≡ r ∷ rs = sym kept.recorded.recorded ∙ is in
-      let V : List ℕ → Option Verdict = verdict_in (records_of state.history) in
       let asks = ahead_asks many (plan state.front) permit.text passes.0 in
-      let unknown : V asks.0 ≡ None = unrecorded plan state asks.0 claimed.unstopped asks.1 settled in
-      let waits : follow V (plan state.front) ≡ plan state.front = stays V (plan state.front) asks.0 asks.1 unknown in
-      let leads : follow V start ≡ follow V (replay start state.history) =
-      leads_on V [] start state.history kept.recorded.legal.commits (extends_itself (records_of state.history) kept.recorded.legal.distinct) in
-      let there : follow V start ≡ plan state.front = leads ∙ ap (follow V) (sym (kept.replayed claimed.unstopped)) ∙ waits in
-      let begins : Contains (ahead many start) r.text = subst (λ (qs : List Record). BeginsWithin (ahead many start) qs state.table.claims) is kept.begins in
-      let first_text : asked start ≡ Some r.text = first_is many start r.text ended begins in
-      let at_text : verdict_in (r ∷ rs) r.text ≡ Some r.verdict = rw (nat_list_eq_equiv.refl r.text) refl in
-      let known : V r.text ≡ Some r.verdict = ap (λ (qs : List Record). verdict_in qs r.text) records ∙ at_text in
-      let ends : follow V start ≡ after start r.verdict =
-      follow_after V start r.verdict r.text first_text known ∙ follow_ended V (after start r.verdict) over in
-      let nothing : Some asks.0 ≡ None = sym asks.1 ∙ ap asked (sym there ∙ ends) ∙ over in
-      absurd (cc nothing)
+      let unknown : verdict_in (records_of state.history) asks.0 ≡ None = unrecorded plan state asks.0 claimed.unstopped asks.1 settled in
+      over_before plan first may_say put faults state kept ended claimed.unstopped asks.0 asks.1 unknown r rs is over
 
   by_records : (rs : List Record) → state.table.records ≡ rs
       → StartsAlone start rs (state.table.claims ++ record { number = permit.claim; text = permit.text } ∷ [])
@@ -143,6 +158,55 @@ module _ {S J : Type 0} (plan first : S → Plan) (may_say : List ℕ → Verdic
 
   pub taken_alone : StartsAlone start (with_claimed permit state.table).records (with_claimed permit state.table).claims
   taken_alone = by_records state.table.records refl
+
+-- ---- a recall
+
+module _ {S J : Type 0} (plan first : S → Plan) (may_say : List ℕ → Verdict → Type 0) (put : J → Option Put) (faults : J → ℕ) (state : BoardState S J)
+    (kept : IsKept plan first may_say put faults state) (r : Record) (could : CanRecall plan state)
+    (found : kept_of (verdict_in state.kept) (asked (plan state.front)) ≡ Some r) (ended : HasEnded (after (first state.front) No)) where
+  abbrev first_plan : Plan
+  first_plan = first state.front
+
+  abbrev texts_ahead : List (List ℕ)
+  texts_ahead = ahead (2 * length state.seats) first_plan
+
+  asks : asked (plan state.front) ≡ Some r.text
+  asks = (kept_found (verdict_in state.kept) (asked (plan state.front)) r found).0
+
+  is_kept : verdict_in state.kept r.text ≡ Some r.verdict
+  is_kept = (kept_found (verdict_in state.kept) (asked (plan state.front)) r found).1
+
+  unknown : verdict_in (records_of state.history) r.text ≡ None
+  unknown =
+      let same : could.1.0 ≡ r = cc (sym could.1.1 ∙ found) in
+      no_verdict_of (records_of state.history) r.text
+      (subst (λ (q : Record). list_any (bytes_eq q.text) (texts_of (records_of state.history)) ≡ false) same could.1.2)
+
+  -- a claim before the first record would be of this text, which has a kept verdict
+  none_claimed : (claims : List Claim) → asked first_plan ≡ Some r.text → All (λ (c : Claim). Contains texts_ahead c.text) claims
+      → All (λ (c : Claim). verdict_in state.kept c.text ≡ None) claims → claims ≡ []
+  none_claimed [] first_asks begins unkept = refl
+  none_claimed (c ∷ claims) first_asks begins unkept =
+      let same : c.text ≡ r.text =
+      contains_only (2 * length state.seats) first_plan c.text r.text ended first_asks
+      (All-head (λ (d : Claim). Contains texts_ahead d.text) c claims begins) in
+      let none : verdict_in state.kept c.text ≡ None = All-head (λ (d : Claim). verdict_in state.kept d.text ≡ None) c claims unkept in
+      let no : ◌≡◌ {A = Option Verdict} (Some r.verdict) None = sym is_kept ∙ ap (verdict_in state.kept) (sym same) ∙ none in
+      absurd (cc no)
+
+  first_recalled : state.table.records ≡ [] → state.table.claims ≡ []
+  first_recalled none =
+      let same : plan state.front ≡ first_plan =
+      kept.replayed could.0 ∙ nothing_committed first_plan state.history kept.recorded.legal.commits (sym kept.recorded.recorded ∙ none) in
+      none_claimed state.table.claims (ap asked (sym same) ∙ asks)
+      (subst (λ (rs : List Record). BeginsWithin texts_ahead rs state.table.claims) none kept.begins) kept.recorded.not_kept
+
+  alone_by : (rs : List Record) → state.table.records ≡ rs → StartsAlone first_plan (rs ++ r ∷ []) state.table.claims
+  alone_by [] is = λ over. (refl, first_recalled is)
+  alone_by (q ∷ rs) is = λ over. absurd (over_before plan first may_say put faults state kept ended could.0 r.text asks unknown q rs is over)
+
+  pub recalled_alone : StartsAlone first_plan (with_kept_record r state.table).records (with_kept_record r state.table).claims
+  recalled_alone = alone_by state.table.records refl
 
 -- ---- a record
 

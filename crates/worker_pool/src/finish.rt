@@ -1,6 +1,6 @@
 //! What the calling thread does once the workers have ended.
 
-ghost use Rattle.std.specs.Prelude.{◌≡◌, ℕ, [], None, Some, All, IsFalse, IsSome, length, slice_index_or};
+ghost use Rattle.std.specs.Prelude.{◌≡◌, [], None, Some, IsFalse};
 ghost use Rattle.reduce_step.specs.Plan.{HasEnded};
 ghost use Rattle.boxcar.specs.Table.{Shows};
 ghost use Rattle.ordered_commit.specs.BoardState.{Holds};
@@ -43,7 +43,7 @@ fn answer<S: Step + Drop, G: Gate, J: Sink + Drop>(
     }
 }
 
-/// Commits all it can and asks once more, where there is something to ask. Whether there was.
+/// Recalls and commits all it can and asks once more, where there is something to ask. Whether there was.
 fn turn<S: Step + Drop, G: Gate, J: Sink + Drop, W: Wait>(
     rt: &W,
     texts: &Texts,

@@ -1,14 +1,14 @@
 //! The run of several workers, and what comes after their work.
 
-ghost use Rattle.std.specs.Prelude.{◌≡◌, ◌<◌, ◌≤◌, ℕ, [], None, Some, All, IfSome, IsSome, length, map, nat_eq, slice_index_or};
-ghost use Rattle.std.specs.List.{IsDistinct, range_with_len};
+ghost use Rattle.std.specs.Prelude.{◌≡◌, ◌<◌, ◌≤◌, ℕ, None, Some, All, IsSome, length, map, slice_index_or};
+ghost use Rattle.std.specs.List.{range_with_len};
 ghost use Rattle.reduce_step.specs.Plan.{HasEnded};
 ghost use Rattle.ordered_commit.specs.Kept.{IsKept};
 ghost use Rattle.ordered_commit.specs.Made.{new_board};
 ghost use Rattle.ordered_commit.specs.Seats.{Agrees, AreFreeSeats, new_seats};
 ghost use Rattle.worker_pool.specs.Ends.{AreDone, IsOutcome};
 ghost use Rattle.worker_pool.specs.inner.Ends.{GoesOn, HasDone, IsBrought, IsLeft, IsTaken};
-ghost use Rattle.worker_pool.specs.Runs.{RunMembers, members};
+ghost use Rattle.worker_pool.specs.Runs.{members};
 ghost use Rattle.worker_pool.specs.inner.Runs.{IsOfRun};
 
 use crate::finish::finish;
@@ -172,7 +172,7 @@ pub(crate) fn run_several<
     workers: &mut [Worker<G>],
 ) -> Outcome<S, J>
     requires some { (1 ≤ length workers.old) × (length workers.old ≤ 16) }
-    requires board { board ≡ new_board (length workers.old) board.start board.front board.journal }
+    requires board { board ≡ new_board (length workers.old) board.start board.kept board.front board.journal }
     requires seats { seats.items ≡ new_seats (length workers.old) }
     ensures outcome { IsOutcome S.plan S.first G.may_say J.put_so_far J.faults (members S.first J.put_so_far J.faults (length workers.old) board) result }
     ensures workers { AreDone G.log G.faults result.fault result.events.items workers.old workers.new }

@@ -1,6 +1,6 @@
 //! What names one run, and the board of it that lies behind the lock.
 
-ghost use Rattle.std.specs.Prelude.{◌≡◌, ◌↔◌, None, Some, IfOk, IsFalse};
+ghost use Rattle.std.specs.Prelude.{◌≡◌, None, Some, IfOk, IsFalse};
 ghost use Rattle.boxcar.specs.Table.{Shows};
 ghost use Rattle.ordered_commit.specs.BoardState.{Holds};
 ghost use Rattle.ordered_commit.specs.TakeEnds.{IsShown};
@@ -89,20 +89,20 @@ impl<S: Step + Drop, G: Gate, J: Sink + Drop, R: Run> Shared<S, G, J, R> {
                 .holds(answer.claim(), texts.value(answer.token()).as_slice())
     }
 
-    /// Commits all it can, and takes. `committed` says then whether it committed something.
+    /// Recalls and commits all it can, and takes. `moved` says then whether it recalled or committed.
     pub(crate) fn next<W: Wait>(
         &mut self,
         rt: &W,
         texts: &Texts,
         seat: &mut Seat,
-        committed: &mut bool,
+        moved: &mut bool,
     ) -> Result<Take, Memory>
         requires agrees { Agrees self.old.seats seat.old }
         requires free { seat.old.claim ≡ None }
         ensures seat { TakesSeat result seat.old seat.new }
         ensures shows { IfOk result (IsShown texts.now) }
     {
-        next(rt, texts, &mut self.board, seat, committed)
+        next(rt, texts, &mut self.board, seat, moved)
     }
 
     /// Records an answer.

@@ -23,7 +23,7 @@ fn without_texts<S: Step + Drop, G: Gate, J: Sink + Drop>(
     seats: Vec<Seat>,
     workers: &[Worker<G>],
 ) -> Outcome<S, J>
-    requires board { board ≡ new_board (length workers.now) board.start board.front board.journal }
+    requires board { board ≡ new_board (length workers.now) board.start board.kept board.front board.journal }
     requires seats { seats.items ≡ new_seats (length workers.now) }
     requires unseated { All (λ w. w.seat ≡ None) workers.now }
     ensures outcome { IsOutcome S.plan S.first G.may_say J.put_so_far J.faults (members S.first J.put_so_far J.faults (length workers.now) board) result }
@@ -46,7 +46,7 @@ fn run_one<S: Step + Drop, G: Gate, J: Sink + Drop, W: Wait>(
     workers: &mut [Worker<G>],
 ) -> Outcome<S, J>
     requires only { length workers.old ≡ 1 }
-    requires board { board ≡ new_board 1 board.start board.front board.journal }
+    requires board { board ≡ new_board 1 board.start board.kept board.front board.journal }
     requires seats { seats.items ≡ new_seats 1 }
     requires unseated { All (λ w. w.seat ≡ None) workers.old }
     ensures outcome { IsOutcome S.plan S.first G.may_say J.put_so_far J.faults (members S.first J.put_so_far J.faults 1 board) result }
@@ -58,10 +58,10 @@ fn run_one<S: Step + Drop, G: Gate, J: Sink + Drop, W: Wait>(
     run_alone(rt, texts, board, seats, &mut workers[0].gate)
 }
 
-/// Runs the workers over a new board until nothing is left to do: each commits all it can and takes under
-/// one lock, asks its gate outside of it, and records or gives up under it. The first fault that a worker
-/// meets is in the outcome, and ends the run once all have come back; a journal fault takes the place of
-/// any other.
+/// Runs the workers over a new board until nothing is left to do: each recalls and commits all it can and
+/// takes under one lock, asks its gate outside of it, and records or gives up under it. A text that has a
+/// kept verdict is never asked about. The first fault that a worker meets is in the outcome, and ends the
+/// run once all have come back; a journal fault takes the place of any other.
 ///
 /// Several workers work each in a thread of its own where one can be made, and one after another where
 /// not. One worker works in the calling thread. It doesn't return before all scripts have.
@@ -72,7 +72,7 @@ pub fn run_workers<
     W: Threads + Wait + Sync,
 >(rt: &W, board: Board<S, G, J>, seats: Vec<Seat>, workers: &mut [Worker<G>]) -> Outcome<S, J>
     requires some { (1 ≤ length workers.old) × (length workers.old ≤ 16) }
-    requires board { board ≡ new_board (length workers.old) board.start board.front board.journal }
+    requires board { board ≡ new_board (length workers.old) board.start board.kept board.front board.journal }
     requires seats { seats.items ≡ new_seats (length workers.old) }
     requires unseated { All (λ w. w.seat ≡ None) workers.old }
     ensures outcome { IsOutcome S.plan S.first G.may_say J.put_so_far J.faults (members S.first J.put_so_far J.faults (length workers.old) board) result }

@@ -26,8 +26,8 @@ fn wake(changed: &Condvar, news: bool) {
     }
 }
 
-/// Commits all it can and takes, under one lock. Where there is nothing yet it waits until another worker
-/// has recorded, committed or given up; a look that finds nothing wakes nobody.
+/// Recalls and commits all it can and takes, under one lock. Where there is nothing yet it waits until
+/// another worker has recorded, recalled, committed or given up; a look that finds nothing wakes nobody.
 fn claim<S: Step + Drop, G: Gate, J: Sink + Drop, R: Run, W: Wait>(
     rt: &W,
     lock: &Mutex<Shared<S, G, J, R>>,
@@ -42,9 +42,9 @@ fn claim<S: Step + Drop, G: Gate, J: Sink + Drop, R: Run, W: Wait>(
     let own = *seat;
     for _ in rt.forever() {
         let mut shared = changed.wait_while(rt, lock.lock(rt), |shared| shared.disagrees(&own));
-        let mut committed = false;
-        let next = shared.next(rt, texts, seat, &mut committed);
-        wake(changed, committed || is_over(&next));
+        let mut moved = false;
+        let next = shared.next(rt, texts, seat, &mut moved);
+        wake(changed, moved || is_over(&next));
         match next {
             Ok(Take::Work(permit)) => return Some(permit),
             Ok(Take::NotYet) => drop(changed.wait(rt, shared)),

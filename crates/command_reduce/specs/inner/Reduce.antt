@@ -1,8 +1,8 @@
 -- Beside `../Reduce.antt`: what private functions and proofs need.
-use Rattle.std.specs.Prelude.{◌≡◌, ℕ, drop, List, MatchResult, Result}
+use Rattle.std.specs.Prelude.{◌≡◌, ℕ, drop, List, [], MatchResult, Result}
 use Rattle.std.specs.Global.{Vec}
 use Rattle.script_gate_trait.specs.declared.gate.Verdict.{Verdict}
-use Rattle.reduce_journal.specs.History.{History, records_of}
+use Rattle.reduce_journal.specs.History.{History}
 use Rattle.reduce_journal.specs.declared.digest.Digest.{Digest}
 use Rattle.command_ends.specs.declared.status.Refusal.{Refusal}
 use Rattle.command_ends.specs.Status.{line_of, status_of}
@@ -33,7 +33,7 @@ ReduceReports options start history old new report = (out out' : SeenOut) → Wr
 pub record ReduceSteps (options : ReduceOptions) (may_say : List ℕ → Verdict → Type 0) (history : History) (old new : Inside)
     (outcome : Result (Vec ℕ) Refusal) : Type 0 where
   pub start : Digest
-  pub sound : RecordsAreSound options may_say (records_of history) (logs_of old.gates) (logs_of new.gates) old.journal new.journal
+  pub sound : RecordsAreSound options may_say [] history (logs_of old.gates) (logs_of new.gates) old.journal new.journal
   pub of_input : (out out' : SeenOut) → IsHistoryOfInput options start history (beside old out) (beside new out')
   pub others : drop options.jobs new.gates ≡ drop options.jobs old.gates
   pub ends : MatchResult outcome (λ report. ReduceReports options start history old new report.items)

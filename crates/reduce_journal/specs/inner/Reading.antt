@@ -1,5 +1,6 @@
 -- What is at the front of some bytes of a journal: a part of an event and the bytes after it, or why there is none.
-use Rattle.std.specs.Prelude.{◌≡◌, ℕ, ◌+◌, ◌-◌, ◌*◌, List, [], ◌∷◌, length, take, drop, Result, Ok, Err, ◌&&◌, ◌==◌, nat_le, nat_lt, if◌then◌else◌}
+use Rattle.std.specs.Prelude.{◌≡◌, ℕ, ◌+◌, ◌-◌, ◌*◌, List, [], ◌∷◌, length, take, drop, Result, Ok, Err}
+use Rattle.std.specs.Prelude.{◌&&◌, ◌==◌, nat_le, nat_lt, Bool, true, false, if◌then◌else◌}
 use Rattle.std.specs.Char.{is_ascii_digit}
 use Rattle.script_gate_trait.specs.declared.gate.Verdict.{Verdict}
 use Rattle.script_gate_trait.specs.declared.gate.Verdict.TheVariants.{Yes, No}
@@ -63,15 +64,15 @@ unfoldable pub text_at : ℕ → List ℕ → Parse (List ℕ)
 text_at count bytes =
     if nat_lt (length bytes) count then Err Torn else (after 10 (drop count bytes) >>= λ rest. Ok (take count bytes, rest))
 
--- a record without its first letter
-unfoldable pub record_at : List ℕ → Parse Event
-record_at bytes = do
+-- a record without its first letter, asked or kept
+unfoldable pub record_at : Bool → List ℕ → Parse Event
+record_at kept bytes = do
   letter ← after 32 bytes
   verdict ← verdict_at letter
   number ← after 32 verdict.1
   count ← number_at text_limit number
   text ← text_at count.0 count.1
-  Ok (Recorded text.0 verdict.0, text.1)
+  Ok (Recorded text.0 verdict.0 kept, text.1)
 
 -- a commit without its first letter, after so many records
 unfoldable pub commit_at : ℕ → List ℕ → Parse Event
@@ -80,12 +81,19 @@ commit_at records bytes = if records == 0 then Err Bad else do
   number ← positive_at records rest
   Ok (Committed number.0, number.1)
 
--- an event, after so many records
-unfoldable pub event_at : ℕ → List ℕ → Parse Event
-event_at records [] = Err Torn
-event_at records (b ∷ rest) = if b == 82 then record_at rest else (if b == 67 then commit_at records rest else Err Bad)
+-- a kept record without its first letter, where the version has them
+unfoldable pub kept_at : ℕ → List ℕ → Parse Event
+kept_at version bytes = if version == 2 then record_at true bytes else Err Bad
+
+-- an event of a journal of this version, after so many records
+unfoldable pub event_at : (version records : ℕ) → List ℕ → Parse Event
+event_at version records [] = Err Torn
+event_at version records (b ∷ rest) =
+    if b == 82 then record_at false rest
+    else (if b == 67 then commit_at records rest
+    else (if b == 75 then kept_at version rest else Err Bad))
 
 -- the event that is lent
 abbrev pub lent_event : LentEvent → Event
-lent_event (lent.Recorded text verdict) = Recorded text.now verdict
+lent_event (lent.Recorded text verdict kept) = Recorded text.now verdict kept
 lent_event (lent.Committed number) = Committed number

@@ -5,8 +5,9 @@ use Rattle.script_gate_trait.specs.declared.gate.Verdict.{Verdict}
 use Rattle.script_gate_trait.specs.declared.gate.Verdict.TheVariants.{No}
 use Rattle.reduce_step.specs.Plan.{HasEnded, Plan, after, asked, follow}
 use Rattle.verdict_table.specs.TableState.{texts_of, verdict_in}
-use Rattle.reduce_journal.specs.History.{History, records_of}
+use Rattle.reduce_journal.specs.History.{History, asked_records_of, records_of}
 use Rattle.reduce_journal.specs.declared.digest.Digest.{Digest}
+use Rattle.ordered_commit_moves.specs.Moves.{KeptVerdicts}
 use Rattle.ordered_commit_moves.specs.Replay.{replay}
 use Rattle.ordered_commit.specs.declared.fault.PoolFault.{PoolFault}
 use Rattle.ordered_commit.specs.declared.fault.PoolFault.TheVariants.{Script, Journal, Memory}
@@ -25,11 +26,11 @@ IsCausedBy (Some Journal) old new = CallFailed old.journal new.journal
 IsCausedBy (Some Memory) old new = IsQuiet old.journal new.journal
 
 -- what the journal has, by the fault
-abbrev pub JournalLeft : ℕ → Digest → Option PoolFault → History → Option Put → Option Put → Type 0
-JournalLeft workers start None history old new = HasWritten start history old new
-JournalLeft workers start (Some (Script worker)) history old new = HasWritten start history old new
-JournalLeft workers start (Some Journal) history old new = HasPartBy workers start history old new
-JournalLeft workers start (Some Memory) history old new = HasWritten start history old new ⊎ HasNothing history old new
+abbrev pub JournalLeft : ℕ → Digest → KeptVerdicts → Option PoolFault → History → Option Put → Option Put → Type 0
+JournalLeft workers start kept None history old new = HasWritten start history old new
+JournalLeft workers start kept (Some (Script worker)) history old new = HasWritten start history old new
+JournalLeft workers start kept (Some Journal) history old new = HasPartBy workers start kept history old new
+JournalLeft workers start kept (Some Memory) history old new = HasWritten start history old new ⊎ HasNothing history old new
 
 -- where the gate failed, the reducer asks a text that has no record
 abbrev pub WaitsAt : Option PoolFault → Plan → History → Type 0
@@ -46,18 +47,18 @@ IsQuietBut (Some Journal) old new = AreQuiet old new
 IsQuietBut (Some Memory) old new = AreQuiet old new
 
 -- What holds of a run of one worker beside: it does what one thread does, and its gate failed only where that is the cause.
-pub record IsAlone (fault : Option PoolFault) (first : Plan) (history : History) (old new : List SeenGate) : Type 0 where
-  pub sequential : IsSequential fault first history
+pub record IsAlone (kept : KeptVerdicts) (fault : Option PoolFault) (first : Plan) (history : History) (old new : List SeenGate) : Type 0 where
+  pub sequential : IsSequential kept fault first history
   pub waits : WaitsAt fault first history
   pub quiet : IsQuietBut fault old new
 
 -- A run of a reducer that begins with the plan `first` and came to the plan `last`, by so many workers, whose gates are these before it and after it.
-pub record IsRunBy (workers : ℕ) (may_say : List ℕ → Verdict → Type 0) (first last : Plan) (fault : Option PoolFault) (history : History)
+pub record IsRunBy (workers : ℕ) (may_say : List ℕ → Verdict → Type 0) (kept : KeptVerdicts) (first last : Plan) (fault : Option PoolFault) (history : History)
     (old new : List SeenGate) : Type 0 where
-  pub history_of : IsHistoryOf may_say first history
+  pub history_of : IsHistoryOf may_say kept first history
   -- where the no of the text that is asked first ends the reducer, the first record is of that text, and the only one if it ends the reducer
   pub start : HasEnded (after first No) → BeginsWith first (records_of history) × EndsAtFirst first (records_of history)
-  pub asked : AreAsked (texts_of (records_of history)) (logs_of old) (logs_of new)
+  pub asked : AreAsked (texts_of (asked_records_of history)) (logs_of old) (logs_of new)
   -- without a fault the reducer has ended, where its records lead it, and its commits
   pub ended : fault ≡ None → HasEnded last × (last ≡ follow (verdict_in (records_of history)) first) × (last ≡ replay first history)
-  pub alone : workers ≡ 1 → IsAlone fault first history old new
+  pub alone : workers ≡ 1 → IsAlone kept fault first history old new

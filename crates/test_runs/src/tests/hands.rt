@@ -66,12 +66,16 @@ pub(crate) enum Got {
     Refused,
 }
 
-/// Makes a commit if one can be made, and says whether none could.
+/// Makes a recall or a commit if one can be made, and says whether none could.
 fn is_settled<S: Step + Drop, G: Gate, J: Sink + Drop>(board: &mut Board<S, G, J>) -> bool
     ensures { IsTrue result → IsSettled S.plan board.new }
 {
-    match board.commit() {
-        Ok(committed) => !committed,
+    match board.recall() {
+        Ok(true) => false,
+        Ok(false) => match board.commit() {
+            Ok(committed) => !committed,
+            Err(_) => false,
+        },
         Err(_) => false,
     }
 }
@@ -118,6 +122,18 @@ pub(crate) fn record_for<G: Gate>(
         return None;
     }
     board.record(&mut hand.seat, answer).ok()
+}
+
+/// How many recalls are made until no more can be; none where one fails.
+pub(crate) fn recalls<G: Gate>(board: &mut Board<SmallStep, G, MemSink>) -> Option<u64> {
+    for count in 0..10u64 {
+        match board.recall() {
+            Ok(true) => {}
+            Ok(false) => return Some(count),
+            Err(_) => return None,
+        }
+    }
+    None
 }
 
 /// How many commits are made until no more can be; none where one fails.

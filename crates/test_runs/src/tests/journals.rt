@@ -13,6 +13,7 @@ use reduce_step::TEXT_LIMIT;
 use script_gate_trait::{Bytes, Verdict};
 use std::alloc::Global;
 use std::test::Fail;
+use verdict_table::Kept;
 
 /// What is reduced in the worked run.
 pub(crate) const START: &[u8] = b"a=1;b=2;c=3;";
@@ -34,6 +35,7 @@ pub(crate) const JOURNAL_1: &[u8] =
 #[derive(Clone, Copy)]
 enum Row {
     Recorded(&'static [u8], Verdict),
+    Kept(&'static [u8], Verdict),
     Committed(u64),
 }
 
@@ -56,20 +58,36 @@ const HISTORY: [Row; 11] = [
 const ENDS: [usize; 12] = [0, 20, 24, 31, 35, 47, 51, 66, 70, 82, 86, 90];
 
 fn event_of(alloc: Global, row: Row) -> Result<Event, Memory> {
-    match row {
-        Row::Recorded(text, verdict) => {
-            let text = Bytes::from_slice(alloc, text)?;
-            Ok(Event::Recorded { text, verdict })
-        }
-        Row::Committed(number) => Ok(Event::Committed { number }),
-    }
+    let (text, verdict, kept) = match row {
+        Row::Recorded(text, verdict) => (text, verdict, false),
+        Row::Kept(text, verdict) => (text, verdict, true),
+        Row::Committed(number) => return Ok(Event::Committed { number }),
+    };
+    Ok(Event::Recorded {
+        text: Bytes::from_slice(alloc, text)?,
+        verdict,
+        kept,
+    })
 }
 
 fn is_event(event: &Event, row: Row) -> bool {
     match (event, row) {
-        (Event::Recorded { text, verdict }, Row::Recorded(wanted, verdict_wanted)) => {
-            text.as_slice() == wanted && *verdict == verdict_wanted
-        }
+        (
+            Event::Recorded {
+                text,
+                verdict,
+                kept: false,
+            },
+            Row::Recorded(wanted, verdict_wanted),
+        )
+        | (
+            Event::Recorded {
+                text,
+                verdict,
+                kept: true,
+            },
+            Row::Kept(wanted, verdict_wanted),
+        ) => text.as_slice() == wanted && *verdict == verdict_wanted,
         (Event::Committed { number }, Row::Committed(wanted)) => *number == wanted,
         _ => false,
     }
@@ -253,7 +271,7 @@ const TORN: [&[u8]; 16] = [
 ];
 
 /// What is bad there.
-const BAD: [&[u8]; 18] = [
+const BAD: [&[u8]; 17] = [
     b"C",
     b"C 1\n",
     b"R x",
@@ -270,9 +288,14 @@ const BAD: [&[u8]; 18] = [
     b"R y 10485760",
     b"R y 1\r\n",
     b"r y 0\n\n",
-    b"S",
     b"\n",
 ];
+
+/// What is torn after the head of version 2, and bad after that of version 1.
+const TORN_KEPT: [&[u8]; 5] = [b"K", b"K ", b"K y 0", b"K y 1048576\n", b"K n 2\na"];
+
+/// What is bad there too.
+const BAD_KEPT: [&[u8]; 5] = [b"K x", b"Ky", b"K y 1048577", b"k y 0\n\n", b"S"];
 
 /// What is torn after the head and a record.
 const TORN_AFTER: [&[u8]; 4] = [b"", b"C", b"C ", b"C 1"];
@@ -353,24 +376,55 @@ fn first_not_bad(alloc: Global, begin: &[u8], tails: &[&[u8]]) -> Result<Option<
 
 /// For each table, the number of the first tail that is read otherwise after this head, and after this
 /// one with a record.
-fn others(alloc: Global, head: &[u8], record: &[u8]) -> Result<[Option<usize>; 4], Fail> {
+fn others(alloc: Global, head: &[u8], record: &[u8]) -> Result<[Option<usize>; 5], Fail> {
     Ok([
         first_not_torn(alloc, head, 0, &TORN)?,
         first_not_bad(alloc, head, &BAD)?,
+        first_not_bad(alloc, head, &BAD_KEPT)?,
         first_not_torn(alloc, record, 1, &TORN_AFTER)?,
         first_not_bad(alloc, record, &BAD_AFTER)?,
     ])
 }
 
-/// The head of version 2 with a record.
-const ONE_RECORD_2: &[u8] = b"perses-journal 2\n\
-    S fe55d574c397b7713a66bb55be32810164343b436e7529075844e43fce81c64e\nR y 0\n\n";
+/// The head of version 2 with a kept record.
+const ONE_KEPT: &[u8] = b"perses-journal 2\n\
+    S fe55d574c397b7713a66bb55be32810164343b436e7529075844e43fce81c64e\nK y 0\n\n";
 
 #[test]
 fn parts_torn_tails_from_bad_records(rt: HostRuntime) -> Result<(), Fail> {
-    assert_eq!(rt; others(rt.alloc(), BEGIN, ONE_RECORD)?, [None; 4]);
-    assert_eq!(rt; others(rt.alloc(), HEAD, ONE_RECORD_2)?, [None; 4]);
+    assert_eq!(rt; others(rt.alloc(), BEGIN, ONE_RECORD)?, [None; 5]);
+    assert_eq!(rt; others(rt.alloc(), HEAD, ONE_KEPT)?, [None; 5]);
+    assert_eq!(rt; first_not_bad(rt.alloc(), BEGIN, &TORN_KEPT)?, None);
+    assert_eq!(rt; first_not_torn(rt.alloc(), HEAD, 0, &TORN_KEPT)?, None);
     Ok(())
+}
+
+/// A resumed run's events: kept records and asked ones.
+const RESUMED: [Row; 4] = [
+    Row::Kept(START, Verdict::Yes),
+    Row::Committed(1),
+    Row::Recorded(b"", Verdict::No),
+    Row::Kept(b"\n", Verdict::No),
+];
+
+/// The bytes of those.
+const RESUMED_JOURNAL: &[u8] = b"perses-journal 2\n\
+    S fe55d574c397b7713a66bb55be32810164343b436e7529075844e43fce81c64e\n\
+    K y 12\na=1;b=2;c=3;\nC 1\nR n 0\n\nK n 1\n\n\n";
+
+#[test]
+fn writes_and_reads_kept_records(rt: HostRuntime) -> Result<(), Fail> {
+    let mut sink = MemSink::new(rt.alloc(), 1000, Vec::new(rt.alloc()))?;
+    assert_eq!(rt; written(&mut sink, rt.alloc(), &RESUMED)?, 4);
+    assert!(rt; sink.bytes() == RESUMED_JOURNAL);
+    let journal = read_journal(rt.alloc(), RESUMED_JOURNAL)?;
+    assert!(rt; are_events(&journal.events, &RESUMED));
+    Ok(())
+}
+
+/// The verdicts of what a run left of its journal.
+pub(crate) fn kept_in(alloc: Global, journal: &[u8]) -> Result<Kept, Fail> {
+    Ok(read_journal(alloc, journal)?.kept(alloc)?)
 }
 
 /// A journal whose texts come twice, and look like events.
@@ -388,6 +442,18 @@ fn keeps_any_bytes_and_texts_that_come_twice(rt: HostRuntime) -> Result<(), Fail
     let journal = read_journal(rt.alloc(), TWICE)?;
     assert_eq!(rt; journal.torn, 0);
     assert!(rt; are_events(&journal.events, &TWICE_EVENTS));
+    Ok(())
+}
+
+#[test]
+fn keeps_the_first_record_of_a_text(rt: HostRuntime) -> Result<(), Fail> {
+    let kept = kept_in(rt.alloc(), TWICE)?;
+    assert_eq!(rt; kept.find(b"\n\xFFC"), Some(Verdict::No));
+    assert_eq!(rt; kept.find(b"\n"), None);
+    let kept = kept_in(rt.alloc(), RESUMED_JOURNAL)?;
+    assert_eq!(rt; kept.find(START), Some(Verdict::Yes));
+    assert_eq!(rt; kept.find(b""), Some(Verdict::No));
+    assert_eq!(rt; kept.find(b"\n"), Some(Verdict::No));
     Ok(())
 }
 

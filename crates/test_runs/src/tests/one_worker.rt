@@ -1,7 +1,7 @@
 //! Runs of one worker over the reduction of `a=1;b=2;c=3;`, statement by statement. Where nothing ends it
 //! before its time, and yes is the answer if there is a `b`, its journal is the worked one.
 
-use super::journals::{JOURNAL, START};
+use super::journals::{HEAD, JOURNAL, JOURNAL_1, START, kept_in};
 use super::outcomes::has_come_to;
 use crate::small_step::SmallStep;
 use edge_io::MemSink;
@@ -15,18 +15,20 @@ use script_gate_trait::{Gate, ListGate, RuleGate, Said};
 use std::alloc::Global;
 use std::sync::Wait;
 use std::test::Fail;
+use verdict_table::Kept;
 
 /// What a run comes to, or what is handed back where there is no board.
 type Came = Result<Outcome<SmallStep, MemSink>, Refused<SmallStep, MemSink>>;
 
-/// The run over this gate, with a journal that takes so many bytes, and whose puts of these numbers fail;
-/// from 1.
+/// The run over this gate, with a journal that takes so many bytes, and whose puts of these numbers fail,
+/// from 1; and with these kept verdicts.
 fn run_over<G: Gate, W: Wait>(
     rt: &W,
     alloc: Global,
     gate: &mut G,
     size: u64,
     fail: &[u64],
+    kept: Kept,
 ) -> Result<Came, Memory> {
     let fail = Vec::from_slice(alloc, fail)?;
     let journal = MemSink::new(alloc, size, fail)?;
@@ -35,7 +37,7 @@ fn run_over<G: Gate, W: Wait>(
     };
     let front = SmallStep::new(alloc);
     let start = digest_of(START);
-    match Board::<SmallStep, G, MemSink>::new(alloc, front, journal, 1, start) {
+    match Board::<SmallStep, G, MemSink>::new(alloc, front, journal, 1, start, kept) {
         Err(refused) => Ok(Err(refused)),
         Ok((board, seats)) => Ok(Ok(run_alone(rt, &texts, board, seats, gate))),
     }
@@ -59,7 +61,19 @@ fn comes_to<G: Gate, W: Wait>(
     size: u64,
     wanted: &Wanted,
 ) -> Result<bool, Memory> {
-    let Ok(outcome) = run_over(rt, alloc, gate, size, &[])? else {
+    comes_to_with(rt, alloc, gate, size, Kept::new(alloc), wanted)
+}
+
+/// Whether it does with these kept verdicts.
+fn comes_to_with<G: Gate, W: Wait>(
+    rt: &W,
+    alloc: Global,
+    gate: &mut G,
+    size: u64,
+    kept: Kept,
+    wanted: &Wanted,
+) -> Result<bool, Memory> {
+    let Ok(outcome) = run_over(rt, alloc, gate, size, &[], kept)? else {
         return Ok(false);
     };
     let has_come = has_come_to(&outcome, wanted.fault, wanted.events, wanted.journal);
@@ -119,6 +133,7 @@ fn broken_at<W: Wait>(rt: &W, alloc: Global, put: u64) -> Result<Came, Memory> {
         &mut RuleGate::<98>::new(alloc, false),
         1000,
         &[put],
+        Kept::new(alloc),
     )
 }
 
@@ -181,7 +196,7 @@ fn handed_back<W: Wait>(
     alloc: Global,
     gate: &mut RuleGate<98>,
 ) -> Result<Option<(BoardFault, usize, bool)>, Memory> {
-    match run_over(rt, alloc, gate, 10, &[])? {
+    match run_over(rt, alloc, gate, 10, &[], Kept::new(alloc))? {
         Ok(_) => Ok(None),
         Err(refused) => Ok(Some((
             refused.fault,
@@ -197,5 +212,152 @@ fn hands_all_back_where_the_head_does_not_fit(rt: HostRuntime) -> Result<(), Fai
     let back = handed_back(&rt, rt.alloc(), &mut gate)?;
     assert_eq!(rt; back, Some((BoardFault::Journal, 0, true)));
     assert_eq!(rt; gate.log().map(|log| log.asked.len()), Some(0));
+    Ok(())
+}
+
+/// What a run comes to all of whose verdicts are kept.
+const ALL_KEPT: Wanted = Wanted {
+    fault: None,
+    events: 11,
+    journal: b"perses-journal 2\n\
+        S fe55d574c397b7713a66bb55be32810164343b436e7529075844e43fce81c64e\n\
+        K y 12\na=1;b=2;c=3;\nC 1\nK n 0\n\nC 2\nK n 5\na=1;\n\nC 3\nK y 8\nb=2;c=3;\nC 4\nK y 5\nb=2;\n\nC 5\nC 2\n",
+    asks: false,
+};
+
+/// Whether a run comes to that whose gate fails at each ask, with the verdicts of this journal.
+fn resumes_without_an_ask<W: Wait>(rt: &W, alloc: Global, journal: &[u8]) -> Result<bool, Fail> {
+    let mut gate = ListGate::new(alloc, Vec::new(alloc), Said::Fail);
+    let kept = kept_in(alloc, journal)?;
+    Ok(comes_to_with(rt, alloc, &mut gate, 1000, kept, &ALL_KEPT)? && gate.log().asked.is_empty())
+}
+
+#[test]
+fn asks_nothing_that_is_kept(rt: HostRuntime) -> Result<(), Fail> {
+    assert!(rt; resumes_without_an_ask(&rt, rt.alloc(), JOURNAL)?);
+    assert!(rt; resumes_without_an_ask(&rt, rt.alloc(), JOURNAL_1)?);
+    assert!(rt; resumes_without_an_ask(&rt, rt.alloc(), ALL_KEPT.journal)?);
+    Ok(())
+}
+
+/// How many events there are where the second put fails, the third one, and so on, in a run that recalls all
+/// its verdicts; and how many bytes of its journal are put. A record that can't be written isn't made.
+const UNRECALLED: [(usize, usize); 21] = [
+    (0, 84),
+    (0, 91),
+    (0, 103),
+    (1, 104),
+    (2, 108),
+    (2, 114),
+    (2, 114),
+    (3, 115),
+    (4, 119),
+    (4, 125),
+    (4, 130),
+    (5, 131),
+    (6, 135),
+    (6, 141),
+    (6, 149),
+    (7, 150),
+    (8, 154),
+    (8, 160),
+    (8, 165),
+    (9, 166),
+    (10, 170),
+];
+
+/// Whether the run where the put of this number fails stops with so many events and so many bytes, and has
+/// asked nothing.
+fn stops_unrecalled<W: Wait>(
+    rt: &W,
+    alloc: Global,
+    put: u64,
+    events: usize,
+    bytes: usize,
+) -> Result<bool, Fail> {
+    let Some(journal) = ALL_KEPT.journal.get(..bytes) else {
+        return Ok(false);
+    };
+    let mut gate = ListGate::new(alloc, Vec::new(alloc), Said::Fail);
+    let kept = kept_in(alloc, JOURNAL)?;
+    let Ok(outcome) = run_over(rt, alloc, &mut gate, 1000, &[put], kept)? else {
+        return Ok(false);
+    };
+    let has_stopped = has_come_to(&outcome, Some(PoolFault::Journal), events, journal);
+    Ok(has_stopped && gate.log().asked.is_empty())
+}
+
+#[test]
+fn makes_no_kept_record_that_cannot_be_written(rt: HostRuntime) -> Result<(), Fail> {
+    for (number, (events, bytes)) in UNRECALLED.iter().enumerate() {
+        assert!(rt; stops_unrecalled(&rt, rt.alloc(), number as u64 + 2, *events, *bytes)?);
+    }
+    Ok(())
+}
+
+/// What a run comes to that goes on where another one's gate failed at its third ask.
+const GONE_ON: Wanted = Wanted {
+    fault: None,
+    events: 11,
+    journal: b"perses-journal 2\n\
+        S fe55d574c397b7713a66bb55be32810164343b436e7529075844e43fce81c64e\n\
+        K y 12\na=1;b=2;c=3;\nC 1\nK n 0\n\nC 2\nR n 5\na=1;\n\nC 3\nR y 8\nb=2;c=3;\nC 4\nR y 5\nb=2;\n\nC 5\nC 2\n",
+    asks: false,
+};
+
+/// Whether the run comes to that, and how many texts were asked.
+fn resumed_run<W: Wait>(rt: &W, alloc: Global) -> Result<(bool, usize), Fail> {
+    let answers = Vec::from_slice(alloc, &[Said::No, Said::Yes])?;
+    let mut gate = ListGate::new(alloc, answers, Said::Yes);
+    let kept = kept_in(alloc, UP_TO_A_FAILURE.journal)?;
+    let has_come = comes_to_with(rt, alloc, &mut gate, 1000, kept, &GONE_ON)?;
+    Ok((has_come, gate.log().asked.len()))
+}
+
+#[test]
+fn goes_on_where_another_run_stopped(rt: HostRuntime) -> Result<(), Fail> {
+    assert_eq!(rt; resumed_run(&rt, rt.alloc())?, (true, 3));
+    Ok(())
+}
+
+/// How many of the five texts that the run asks have a kept verdict.
+fn known_texts(kept: &Kept) -> usize {
+    let mut known: usize = 0;
+    for text in [START, b"", b"a=1;\n", b"b=2;c=3;", b"b=2;\n"] {
+        if kept.find(text).is_some() {
+            known = known.saturating_add(1);
+        }
+    }
+    known
+}
+
+/// What a run that is cut off at this byte of its journal leaves: whether one that resumes it asks each of
+/// the five texts that has no whole record, and comes to the end.
+fn resumes_after<W: Wait>(rt: &W, alloc: Global, cut: usize) -> Result<bool, Fail> {
+    let Some(left) = JOURNAL.get(..cut) else {
+        return Ok(false);
+    };
+    let kept = kept_in(alloc, left)?;
+    let known = known_texts(&kept);
+    let mut gate = RuleGate::<98>::new(alloc, true);
+    let Ok(outcome) = run_over(rt, alloc, &mut gate, 1000, &[], kept)? else {
+        return Ok(false);
+    };
+    let Some(log) = gate.log() else {
+        return Ok(false);
+    };
+    Ok(
+        outcome.fault == None
+            && outcome.events.len() == 11
+            && outcome.front.asks().is_none()
+            && log.asked.len().saturating_add(known) == 5,
+    )
+}
+
+#[test]
+fn asks_once_whatever_was_cut_off(rt: HostRuntime) -> Result<(), Fail> {
+    for cut in HEAD.len()..JOURNAL.len() + 1 {
+        assert!(rt; resumes_after(&rt, rt.alloc(), cut)?);
+    }
     Ok(())
 }

@@ -1,17 +1,18 @@
 //! What workers do by hand, row after row.
 
-use super::hands::{Got, Hand, are_free, commits, record_for, seats_of, take_for};
+use super::hands::{Got, Hand, are_free, commits, recalls, record_for, seats_of, take_for};
 use super::journals::START;
 use super::outcomes::has_come_to;
 use crate::small_step::SmallStep;
 use edge_io::MemSink;
 use faults::Memory;
 use gate_permits::Texts;
-use ordered_commit::{Board, Outcome, PoolFault, Seat};
+use ordered_commit::{Board, BoardFault, Outcome, PoolFault, Seat};
 use reduce_journal::digest_of;
 use script_gate_trait::{Gate, RuleGate};
 use std::alloc::Global;
 use std::sync::Wait;
+use verdict_table::Kept;
 
 /// What is done, with what is wanted. Workers count from 0.
 #[derive(Clone, Copy)]
@@ -24,6 +25,10 @@ pub(crate) enum Row {
     Records(usize, u64),
     /// That answer becomes a record that can't be written: so many the worker has made by then.
     Unwritten(usize, u64),
+    /// So many recalls are made, and then no more can be.
+    Recalls(u64),
+    /// A recall isn't made, since it can't be written.
+    Unrecalled,
     /// So many commits are made, and then no more can be.
     Commits(u64),
 }
@@ -69,7 +74,7 @@ fn goes_for<'a, G: Gate, W: Wait>(
         Row::Unwritten(_, records) => {
             record_for(board, hand).is_none() && hand.seat.records == records
         }
-        Row::Commits(_) => false,
+        Row::Recalls(_) | Row::Unrecalled | Row::Commits(_) => false,
     }
 }
 
@@ -82,6 +87,8 @@ fn goes<'a, G: Gate, W: Wait>(
     row: Row,
 ) -> bool {
     let worker = match row {
+        Row::Recalls(count) => return recalls(board) == Some(count),
+        Row::Unrecalled => return matches!(board.recall(), Err(BoardFault::Journal)),
         Row::Commits(count) => return commits(board) == Some(count),
         Row::Works(worker, _)
         | Row::Gets(worker, _)
@@ -130,13 +137,22 @@ fn hands_of<'a, G: Gate + Drop>(
     Ok(hands)
 }
 
-/// A board of two workers, and their seats. The puts of these numbers into its journal fail, from 1.
+/// A board of two workers with these kept verdicts, and their seats. The puts of these numbers into its
+/// journal fail, from 1.
 fn new_board<G: Gate>(
     alloc: Global,
+    kept: Kept,
     fail: Vec<u64>,
 ) -> Result<(Board<SmallStep, G, MemSink>, Vec<Seat>), Other> {
     let journal = MemSink::new(alloc, 1000, fail)?;
-    match Board::new(alloc, SmallStep::new(alloc), journal, 2, digest_of(START)) {
+    match Board::new(
+        alloc,
+        SmallStep::new(alloc),
+        journal,
+        2,
+        digest_of(START),
+        kept,
+    ) {
         Ok(made) => Ok(made),
         Err(_) => Err(Other::NoBoard),
     }
@@ -170,11 +186,12 @@ fn outcome_after<'a, G: Gate + Drop, W: Wait>(
     }
 }
 
-/// What a board of two workers with these gates comes to by the rows, of which each is to go as it says.
-/// The puts of these numbers into its journal fail, from 1.
+/// What a board of two workers with these kept verdicts and these gates comes to by the rows, of which each
+/// is to go as it says. The puts of these numbers into its journal fail, from 1.
 pub(crate) fn outcome_by<G: Gate + Drop, W: Wait>(
     rt: &W,
     alloc: Global,
+    kept: Kept,
     fail: Vec<u64>,
     first: G,
     second: G,
@@ -183,7 +200,7 @@ pub(crate) fn outcome_by<G: Gate + Drop, W: Wait>(
     let Ok(texts) = Texts::new(alloc) else {
         return Err(Other::Memory);
     };
-    let (board, seats) = new_board(alloc, fail)?;
+    let (board, seats) = new_board(alloc, kept, fail)?;
     let hands = hands_of(alloc, &seats, first, second)?;
     outcome_after(rt, alloc, &texts, board, hands, rows)
 }
@@ -193,6 +210,7 @@ pub(crate) fn outcome_by<G: Gate + Drop, W: Wait>(
 pub(crate) fn comes_to_with_b<W: Wait>(
     rt: &W,
     alloc: Global,
+    kept: Kept,
     fail: &[u64],
     rows: &[Row],
     wanted: (Option<PoolFault>, usize, &[u8]),
@@ -202,7 +220,7 @@ pub(crate) fn comes_to_with_b<W: Wait>(
     let Ok(fail) = Vec::from_slice(alloc, fail) else {
         return Err(Other::Memory);
     };
-    let outcome = outcome_by(rt, alloc, fail, first, second, rows)?;
+    let outcome = outcome_by(rt, alloc, kept, fail, first, second, rows)?;
     let (fault, events, journal) = wanted;
     Ok(has_come_to(&outcome, fault, events, journal))
 }

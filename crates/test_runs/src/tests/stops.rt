@@ -13,6 +13,7 @@ use script_gate_trait::{ListGate, RuleGate, Said};
 use std::alloc::Global;
 use std::sync::Wait;
 use std::test::Fail;
+use verdict_table::Kept;
 
 /// While the second worker has a claim the script of the first one fails: the second one's record is
 /// made, and nothing is committed.
@@ -32,7 +33,8 @@ const FAILS: [Row; 9] = [
 fn comes_to_the_fault<W: Wait>(rt: &W, alloc: Global) -> Result<bool, Fail> {
     let first = ListGate::new(alloc, Vec::from_slice(alloc, &[Said::Yes])?, Said::Fail);
     let second = ListGate::new(alloc, Vec::new(alloc), Said::No);
-    let outcome = outcome_by(rt, alloc, Vec::new(alloc), first, second, &FAILS)?;
+    let kept = Kept::new(alloc);
+    let outcome = outcome_by(rt, alloc, kept, Vec::new(alloc), first, second, &FAILS)?;
     let journal = b"perses-journal 2\n\
         S fe55d574c397b7713a66bb55be32810164343b436e7529075844e43fce81c64e\n\
         R y 12\na=1;b=2;c=3;\nC 1\nR n 0\n\n"
@@ -62,7 +64,8 @@ fn makes_a_record_that_cannot_be_written(rt: HostRuntime) -> Result<(), Fail> {
         R y 12\n"
         .as_slice();
     let wanted = (Some(PoolFault::Journal), 1, journal);
-    assert!(rt; comes_to_with_b(&rt, rt.alloc(), &[3], &UNWRITTEN, wanted)?);
+    let kept = Kept::new(rt.alloc());
+    assert!(rt; comes_to_with_b(&rt, rt.alloc(), kept, &[3], &UNWRITTEN, wanted)?);
     Ok(())
 }
 
@@ -76,6 +79,7 @@ fn refused_at(alloc: Global, size: u64) -> Result<Option<(BoardFault, usize)>, M
         journal,
         2,
         digest_of(START),
+        Kept::new(alloc),
     );
     match made {
         Ok(_) => Ok(None),

@@ -3,6 +3,7 @@
 use super::hands::Got;
 use super::rows::{Row, comes_to_with_b};
 use std::test::Fail;
+use verdict_table::Kept;
 
 /// The journal that the run below leaves.
 const JOURNAL: &[u8] = b"perses-journal 2\n\
@@ -32,6 +33,7 @@ const ROWS: [Row; 17] = [
 
 #[test]
 fn commits_in_the_order_of_the_front(rt: HostRuntime) -> Result<(), Fail> {
-    assert!(rt; comes_to_with_b(&rt, rt.alloc(), &[], &ROWS, (None, 11, JOURNAL))?);
+    let kept = Kept::new(rt.alloc());
+    assert!(rt; comes_to_with_b(&rt, rt.alloc(), kept, &[], &ROWS, (None, 11, JOURNAL))?);
     Ok(())
 }

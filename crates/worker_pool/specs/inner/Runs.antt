@@ -16,6 +16,7 @@ abbrev pub no_run : RunMembers
 no_run = record {
   first = End (record { text = []; units = 0; used = 0; rounds = 0; refused = false });
   start = record { bytes = [] };
+  kept = [];
   name = None;
   workers = 0;
   faults = 0;
@@ -34,6 +35,7 @@ AtStart first table = HasEnded (after first No) → StartsAlone first table.reco
 pub record IsOfRun {S J : Type 0} (first : S → Plan) (put_so_far : J → Option Put) (faults : J → ℕ) (run : RunMembers) (state : BoardState S J) : Type 0 where
   pub same_first : first state.front ≡ run.first
   pub same_digest : state.start ≡ run.start
+  pub same_kept : state.kept ≡ run.kept
   pub same_name : option_map (λ put. put.name) (put_so_far state.journal) ≡ run.name
   pub all_seats : length state.seats ≡ run.workers
   pub start : AtStart run.first state.table

@@ -45,7 +45,7 @@ returns-in-Ok-clause-steps g c =
     let workers = c.args.workers.now in
     let ran = c.reduce_start-journal in
     let run : Run = run_of g.G.Gate.log g.G.Gate.faults g.J.Sink.put_so_far g.J.Sink.faults (take jobs workers) ran.new.workers c.args.journal
-    c.digest_of-digest.result ran.result in
+    c.of_start-known.result ran.result in
     steps_end (reduce_read c.args.line.now) g.G.Gate.may_say run (seen g.F.Files.content g.F.Files.faults c.args.files.now)
     (seen g.F.Files.content g.F.Files.faults c.write_result-outcome.new.files)
     (seen_gates g.G.Gate.log g.G.Gate.faults workers) (seen_gates g.G.Gate.log g.G.Gate.faults (ran.new.workers ++ drop jobs workers))
@@ -53,6 +53,7 @@ returns-in-Ok-clause-steps g c =
     (lent_first workers jobs c.requires.idle c.requires.enough ran.new.workers ran.ensures.as_many
     (reduce_read c.args.line.now) refl g.G.Gate.log g.G.Gate.faults)
     (sym (lent_many workers jobs c.requires.idle c.requires.enough)) c.in-Ok.ensures.problem c.in-Ok.ensures.guard c.in-Ok.ensures.accepts c.accept.ensures.same
-    c.in-Ok.ensures.quiet (subst (λ (text : List ℕ). IsDigestOf text c.digest_of-digest.result) c.start.ensures c.digest_of-digest.ensures)
+    c.in-Ok.ensures.quiet (subst (λ (text : List ℕ). IsDigestOf text c.of_start-known.result.start) c.start.ensures c.of_start-known.ensures.start)
+    c.of_start-known.ensures.none
     ran.ensures.sound ran.ensures.problem
     c.write_result-outcome.ensures

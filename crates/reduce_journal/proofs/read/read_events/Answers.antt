@@ -18,13 +18,13 @@ loop-event-init c =
 pub loop-event-smaller : goal.loop-event-smaller
 loop-event-smaller c =
     (has_more c.args.bytes.now c.args.head c.loop-event.events.items c.loop-event.rest.now c.loop-event.records (lent_event c.in-Ok.event) c.in-Ok.later.now
-    c.loop-event.invariant.events c.loop-event.invariant.records (omega arith) c.in-Ok.ensures).2
+    c.loop-event.invariant.events c.loop-event.invariant.records (omega arith) (rw c.version-version.ensures at c.in-Ok.ensures)).2
 
 pub loop-event-preserved : goal.loop-event-preserved
 loop-event-preserved c =
     let event = lent_event c.in-Ok.event in
     let more = has_more c.args.bytes.now c.args.head c.loop-event.events.items c.loop-event.rest.now c.loop-event.records event c.in-Ok.later.now
-    c.loop-event.invariant.events c.loop-event.invariant.records (omega arith) c.in-Ok.ensures in
+    c.loop-event.invariant.events c.loop-event.invariant.records (omega arith) (rw c.version-version.ensures at c.in-Ok.ensures) in
     let pushed : c.push.new.self.items ≡ c.loop-event.events.items ++ event ∷ [] =
     c.in_ok-push-in-Ok.ensures.items ∙ ap (λ (e : Event). c.loop-event.events.items ++ e ∷ []) c.in_ok-to_event-in-Ok.ensures in
     record {
@@ -39,11 +39,12 @@ loop-event-preserved c =
 pub returns-in-Err-Torn-clause-journal : goal.returns-in-Err-Torn-clause-journal
 returns-in-Err-Torn-clause-journal c =
     is_journal c.args.bytes.now c.args.head c.loop-event.events.items c.loop-event.rest.now c.loop-event.records (length c.loop-event.rest.now)
-    c.loop-event.invariant.events c.loop-event.invariant.records (omega arith) (rw c.in-Err-Torn.field-0-is at c.in-Err-Torn.ensures) refl
+    c.loop-event.invariant.events c.loop-event.invariant.records (omega arith)
+    (rw (c.version-version.ensures, c.in-Err-Torn.field-0-is) at c.in-Err-Torn.ensures) refl
 
 pub returns-in-Err-Bad-clause-bad_record : goal.returns-in-Err-Bad-clause-bad_record
 returns-in-Err-Bad-clause-bad_record c = λ offset e.
     let is : length c.args.bytes.now - length c.loop-event.rest.now ≡ offset = cc in
     is_bad c.args.bytes.now c.args.head c.loop-event.events.items c.loop-event.rest.now c.loop-event.records offset
-    c.loop-event.invariant.events c.loop-event.invariant.records (omega arith) (rw c.in-Err-Bad.field-0-is at c.in-Err-Bad.ensures)
+    c.loop-event.invariant.events c.loop-event.invariant.records (omega arith) (rw (c.version-version.ensures, c.in-Err-Bad.field-0-is) at c.in-Err-Bad.ensures)
     (omega (arith, is, c.loop-event.invariant.few))

@@ -8,11 +8,12 @@ pub returns-clause-sound : goal.returns-clause-sound
 returns-clause-sound g c =
     let run : Run =
     run_of g.G.Gate.log g.G.Gate.faults g.J.Sink.put_so_far g.J.Sink.faults c.args.workers.now c.run_all-front.new.workers c.args.journal
-    c.args.start
+    c.args.known
     (record { journal = c.run_all-front.result.journal; events = c.run_all-front.result.events; outcome = c.result_of-outcome.result }) in
     record {
       answers = record {
         distinct = c.run_all-front.ensures.ran.history_of.legal.distinct;
+        resumed = c.run_all-front.ensures.ran.history_of.go_with;
         said = c.run_all-front.ensures.ran.history_of.said;
         asked = c.run_all-front.ensures.ran.asked;
       };
@@ -25,10 +26,10 @@ pub returns-clause-in_mode : goal.returns-clause-in_mode
 returns-clause-in_mode g c input same =
     let run : Run =
     run_of g.G.Gate.log g.G.Gate.faults g.J.Sink.put_so_far g.J.Sink.faults c.args.workers.now c.run_all-front.new.workers c.args.journal
-    c.args.start
+    c.args.known
     (record { journal = c.run_all-front.result.journal; events = c.run_all-front.result.events; outcome = c.result_of-outcome.result }) in
     let ran =
-    run_from run.workers g.G.Gate.may_say _ _ _ c.run_all-front.result.fault run.history run.before.gates run.after.gates same c.run_all-front.ensures.ran in
+    run_from run.workers g.G.Gate.may_say _ _ _ _ c.run_all-front.result.fault run.history run.before.gates run.after.gates same c.run_all-front.ensures.ran in
     record {
       history =
           λ keeps listed. are_of_mode (g.R.Round.mode input) run g.G.Gate.may_say _ c.run_all-front.result.fault ran (g.R.Round.Kept input)

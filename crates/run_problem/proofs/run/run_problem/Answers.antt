@@ -13,14 +13,14 @@ use Rattle.run_problem.proofs.run.run_problem.Goals as goal
 pub returns-in-Err-clause-sound : goal.returns-in-Err-clause-sound
 returns-in-Err-clause-sound g c =
     let run : Run =
-    run_of g.G.Gate.log g.G.Gate.faults g.J.Sink.put_so_far g.J.Sink.faults c.args.workers.now c.args.workers.now c.args.journal c.args.digest
+    run_of g.G.Gate.log g.G.Gate.faults g.J.Sink.put_so_far g.J.Sink.faults c.args.workers.now c.args.workers.now c.args.journal c.args.known
     c.refused.result in
     refused_sound run c.refused.ensures.events c.refused.ensures.outcome
     (ap (reached g.G.Gate.log g.G.Gate.faults g.J.Sink.put_so_far g.J.Sink.faults c.args.workers.now) c.refused.ensures.journal) g.G.Gate.may_say
 
 pub returns-in-Err-clause-problem : goal.returns-in-Err-clause-problem
 returns-in-Err-clause-problem g c one is =
-    let run : Run = run_of g.G.Gate.log g.G.Gate.faults g.J.Sink.put_so_far g.J.Sink.faults c.args.workers.now c.args.workers.now c.args.journal c.args.digest
+    let run : Run = run_of g.G.Gate.log g.G.Gate.faults g.J.Sink.put_so_far g.J.Sink.faults c.args.workers.now c.args.workers.now c.args.journal c.args.known
     c.refused.result in
     refused_of run c.refused.ensures.events c.refused.ensures.outcome
     (ap (reached g.G.Gate.log g.G.Gate.faults g.J.Sink.put_so_far g.J.Sink.faults c.args.workers.now) c.refused.ensures.journal)
@@ -36,7 +36,7 @@ pub returns-in-Ok-clause-problem : goal.returns-in-Ok-clause-problem
 returns-in-Ok-clause-problem g c one is =
     let it = subst (λ (p : ReadProblem). IsReadAs (g.F.Relation.admits c.args.guard) p one) c.in-Tree.is is in
     let run : Run =
-    run_of g.G.Gate.log g.G.Gate.faults g.J.Sink.put_so_far g.J.Sink.faults c.args.workers.now c.tree_result.new.workers c.args.journal c.args.digest
+    run_of g.G.Gate.log g.G.Gate.faults g.J.Sink.put_so_far g.J.Sink.faults c.args.workers.now c.tree_result.new.workers c.args.journal c.args.known
     c.tree_result.result in
     subst (λ (p : Problem). IsRunOf (g.F.Relation.admits c.args.guard) p run) (sym it.1)
     (subst (λ (i : TreeInput). IsRunOf i.admits (Problem.of_tree c.in-Tree.mode i) run) (c.in-Ok.ensures it.0) c.tree_result.ensures.problem)

@@ -20,14 +20,14 @@ admitted input whole is kept = subst (λ (numbers : List ℕ). input.admits numb
 pub returns-in-Err-clause-sound : goal.returns-in-Err-clause-sound
 returns-in-Err-clause-sound g c =
     let run : Run =
-    run_of g.G.Gate.log g.G.Gate.faults g.J.Sink.put_so_far g.J.Sink.faults c.args.workers.now c.args.workers.now c.args.journal c.args.digest
+    run_of g.G.Gate.log g.G.Gate.faults g.J.Sink.put_so_far g.J.Sink.faults c.args.workers.now c.args.workers.now c.args.journal c.args.known
     c.refused.result in
     refused_sound run c.refused.ensures.events c.refused.ensures.outcome
     (ap (reached g.G.Gate.log g.G.Gate.faults g.J.Sink.put_so_far g.J.Sink.faults c.args.workers.now) c.refused.ensures.journal) g.G.Gate.may_say
 
 pub returns-in-Err-clause-problem : goal.returns-in-Err-clause-problem
 returns-in-Err-clause-problem g c =
-    let run : Run = run_of g.G.Gate.log g.G.Gate.faults g.J.Sink.put_so_far g.J.Sink.faults c.args.workers.now c.args.workers.now c.args.journal c.args.digest
+    let run : Run = run_of g.G.Gate.log g.G.Gate.faults g.J.Sink.put_so_far g.J.Sink.faults c.args.workers.now c.args.workers.now c.args.journal c.args.known
     c.refused.result in
     refused_of run c.refused.ensures.events c.refused.ensures.outcome
     (ap (reached g.G.Gate.log g.G.Gate.faults g.J.Sink.put_so_far g.J.Sink.faults c.args.workers.now) c.refused.ensures.journal) _
@@ -39,7 +39,7 @@ returns-in-Ok-clause-problem g c =
     let input : TreeInput =
     input_of parts.start.grammar parts.formed parts.tree parts.start.bytes parts.tokens.items.items (g.F.Relation.admits parts.guard) parts.squeezes in
     let run : Run =
-    run_of g.G.Gate.log g.G.Gate.faults g.J.Sink.put_so_far g.J.Sink.faults c.args.workers.now c.walk_result.new.workers c.args.journal c.args.digest
+    run_of g.G.Gate.log g.G.Gate.faults g.J.Sink.put_so_far g.J.Sink.faults c.args.workers.now c.walk_result.new.workers c.args.journal c.args.known
     c.walk_result.result in
     subst (λ (mode : TreeMode). IsRunOf input.admits (Problem.of_tree mode input) run) (sym c.in-Perses.is)
     (tree_run Perses c.walk_laws.ensures c.perses_is_its_recursion.ensures c.histories_go_by_questions.ensures input c.is_input.ensures.is
@@ -50,7 +50,7 @@ returns-in-Ok-clause-problem g c =
 pub returns-in-Err-hdd_reducer-clause-sound : goal.returns-in-Err-hdd_reducer-clause-sound
 returns-in-Err-hdd_reducer-clause-sound g c =
     let run : Run =
-    run_of g.G.Gate.log g.G.Gate.faults g.J.Sink.put_so_far g.J.Sink.faults c.args.workers.now c.args.workers.now c.args.journal c.args.digest
+    run_of g.G.Gate.log g.G.Gate.faults g.J.Sink.put_so_far g.J.Sink.faults c.args.workers.now c.args.workers.now c.args.journal c.args.known
     c.refused-in-Err-hdd_reducer.result in
     refused_sound run c.refused-in-Err-hdd_reducer.ensures.events c.refused-in-Err-hdd_reducer.ensures.outcome
     (ap (reached g.G.Gate.log g.G.Gate.faults g.J.Sink.put_so_far g.J.Sink.faults c.args.workers.now) c.refused-in-Err-hdd_reducer.ensures.journal)
@@ -58,7 +58,7 @@ returns-in-Err-hdd_reducer-clause-sound g c =
 
 pub returns-in-Err-hdd_reducer-clause-problem : goal.returns-in-Err-hdd_reducer-clause-problem
 returns-in-Err-hdd_reducer-clause-problem g c =
-    let run : Run = run_of g.G.Gate.log g.G.Gate.faults g.J.Sink.put_so_far g.J.Sink.faults c.args.workers.now c.args.workers.now c.args.journal c.args.digest
+    let run : Run = run_of g.G.Gate.log g.G.Gate.faults g.J.Sink.put_so_far g.J.Sink.faults c.args.workers.now c.args.workers.now c.args.journal c.args.known
     c.refused-in-Err-hdd_reducer.result in
     refused_of run c.refused-in-Err-hdd_reducer.ensures.events c.refused-in-Err-hdd_reducer.ensures.outcome
     (ap (reached g.G.Gate.log g.G.Gate.faults g.J.Sink.put_so_far g.J.Sink.faults c.args.workers.now) c.refused-in-Err-hdd_reducer.ensures.journal) _
@@ -71,7 +71,7 @@ returns-in-Ok-hdd_reducer-clause-problem g c =
     (g.F.Relation.admits parts.guard) parts.squeezes in
     let run : Run =
     run_of g.G.Gate.log g.G.Gate.faults g.J.Sink.put_so_far g.J.Sink.faults c.args.workers.now c.walk_result-in-Ok-hdd_reducer.new.workers c.args.journal
-    c.args.digest
+    c.args.known
     c.walk_result-in-Ok-hdd_reducer.result in
     subst (λ (mode : TreeMode). IsRunOf input.admits (Problem.of_tree mode input) run) (sym c.in-Hdd.is)
     (tree_run Hdd c.walk_laws-in-Hdd.ensures c.hdd_is_its_recursion.ensures c.histories_go_by_questions.ensures input c.is_input.ensures.is

@@ -1,4 +1,6 @@
-use Rattle.run_worker.proofs.AnswerLemmas.{next_record, record_way}
+use Rattle.std.proofs.Common.{ap}
+use Rattle.run_worker.proofs.AnswerLemmas.{fewer_by_answer, record_way}
+use Rattle.run_worker.proofs.LeftLemmas.{fewer_by_fault}
 use Rattle.run_worker.proofs.turns.ask_and_record.Goals as goal
 
 pub returns-in-Ok-clause-way : goal.returns-in-Ok-clause-way
@@ -10,7 +12,11 @@ returns-in-Ok-clause-way g c = λ start way.
     c.in-Ok.ensures.asked way c.record.ensures.name
     (c.in-Ok.ensures.quiet (λ never. never)) c.record.result c.record.ensures.ends c.record.ensures.failed c.record.ensures.quiet
 
-pub returns-in-Ok-clause-next : goal.returns-in-Ok-clause-next
-returns-in-Ok-clause-next g c =
-    next_record g.S.Step.plan c.args.permit c.in-Ok.answer c.args.seat.now c.record.new.seat c.args.board.now c.record.new.self c.requires.asking
+pub returns-in-Ok-clause-fewer : goal.returns-in-Ok-clause-fewer
+returns-in-Ok-clause-fewer g c =
+    fewer_by_answer g.S.Step.plan c.args.permit c.in-Ok.answer c.args.seat.now c.record.new.seat c.args.board.now c.record.new.self c.requires.asking
     c.in-Ok.ensures.answer c.record.ensures.recorded
+
+pub returns-in-Err-clause-fewer : goal.returns-in-Err-clause-fewer
+returns-in-Err-clause-fewer g c =
+    fewer_by_fault g.S.Step.plan c.args.board.now c.give_up.new.self _ c.requires.asking.unstopped (ap (λ state. state.fault) c.give_up.ensures.board)

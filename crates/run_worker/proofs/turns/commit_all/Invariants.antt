@@ -1,8 +1,8 @@
-use Rattle.std.proofs.Common.{◌≡◌, ◌⊎◌, ℕ, Option}
+use Rattle.std.proofs.Common.{ℕ, Option}
 use Rattle.script_gate_trait.specs.declared.log.Log.{Log}
 use Rattle.ordered_commit.specs.declared.seat.Seat.{Seat}
-use Rattle.run_worker.specs.inner.UnderWay.{IsFree, IsUnderWay, Moment, moment, turns_left}
-use Rattle.run_worker.proofs.LeftLemmas.{Fewer}
+use Rattle.run_worker.specs.inner.UnderWay.{IsFree, IsUnderWay, Moment, moment, moves_left}
+use Rattle.run_worker.proofs.LeftLemmas.{NotMore}
 use Rattle.run_worker.proofs.turns.commit_all.Given as goal
 
 abbrev pub invariant-loop : goal.invariant-loop
@@ -16,8 +16,8 @@ invariant-loop g l =
           → IsUnderWay start (moment first plan put faults l.fn.board log gate_faults) seat
           → IsUnderWay start (moment first plan put faults l.board log gate_faults) seat;
       free : (seat : Seat) → IsFree seat l.fn.board → IsFree seat l.board;
-      stops : (l.board ≡ l.fn.board) ⊎ Fewer plan l.fn.board l.board;
+      most : NotMore plan l.fn.board l.board;
     }
 
 abbrev pub decreases-loop : goal.decreases-loop
-decreases-loop g l = turns_left l.board.fault (g.S.Step.plan l.board.front)
+decreases-loop g l = moves_left g.S.Step.plan l.board

@@ -1,5 +1,6 @@
+use Rattle.std.proofs.Common.{arith}
 use Rattle.run_worker.proofs.AskLemmas.{claim_way, is_asking}
-use Rattle.run_worker.proofs.LeftLemmas.{fewer_by_turn}
+use Rattle.run_worker.proofs.LeftLemmas.{same_left}
 use Rattle.run_worker.proofs.turns.turn.Goals as goal
 
 pub ask_and_record-requires-clause-asking : goal.ask_and_record-requires-clause-asking
@@ -22,6 +23,5 @@ returns-in-Ok-Work-clause-free g c = c.commit_all.ensures.free c.ask_and_record.
 pub returns-in-Ok-Work-clause-fewer : goal.returns-in-Ok-Work-clause-fewer
 returns-in-Ok-Work-clause-fewer g c = λ _.
     let claimed = rw c.in-Ok-Work.field-0-is at c.in-Ok-Work.ensures.ends in
-    fewer_by_turn g.S.Step.plan c.in-Ok-Work.permit c.args.seat.now c.take.new.seat c.args.board.now c.take.new.self c.ask_and_record.new.board
-    c.commit_all.new.board claimed
-    c.commit_all.ensures.stops c.ask_and_record.ensures.next c.commit_all.ensures.settled
+    let same = same_left g.S.Step.plan c.in-Ok-Work.permit c.args.seat.now c.take.new.seat c.args.board.now c.take.new.self claimed in
+    omega (arith, same, c.ask_and_record.ensures.fewer, c.commit_all.ensures.most)

@@ -1,7 +1,7 @@
 use Rattle.std.proofs.Common.{◌≡◌}
 use Rattle.ordered_commit.specs.BoardState.{IsSettled}
 use Rattle.ordered_commit.specs.Seats.{new_seats}
-use Rattle.run_worker.specs.inner.UnderWay.{IsFree, IsUnderWay, moment, turns_left}
+use Rattle.run_worker.specs.inner.UnderWay.{IsFree, IsUnderWay, moment, moves_left}
 use Rattle.run_worker.proofs.worker.run_alone.Given as goal
 
 abbrev pub invariant-loop : goal.invariant-loop
@@ -19,4 +19,4 @@ invariant-loop g l =
     }
 
 abbrev pub decreases-loop : goal.decreases-loop
-decreases-loop g l = turns_left l.board.fault (g.S.Step.plan l.board.front)
+decreases-loop g l = moves_left g.S.Step.plan l.board

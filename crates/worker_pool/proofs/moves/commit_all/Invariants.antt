@@ -1,16 +1,16 @@
 use Rattle.std.proofs.Common.{◌≡◌}
-use Rattle.run_worker.specs.inner.UnderWay.{turns_left}
+use Rattle.run_worker.specs.inner.UnderWay.{moves_left}
 use Rattle.worker_pool.specs.Runs.{RunMembers}
 use Rattle.worker_pool.specs.inner.Runs.{IsOfRun}
 use Rattle.worker_pool.proofs.moves.commit_all.Given as goal
 
-abbrev pub invariant-loop-committed : goal.invariant-loop-committed
-invariant-loop-committed g l =
+abbrev pub invariant-loop-moved : goal.invariant-loop-moved
+invariant-loop-moved g l =
     let is_of = IsOfRun g.S.Step.first g.J.Sink.put_so_far g.J.Sink.faults in
     record {
       run : (run : RunMembers) → is_of run l.fn.board → is_of run l.board;
       seats : l.board.seats ≡ l.fn.board.seats;
     }
 
-abbrev pub decreases-loop-committed : goal.decreases-loop-committed
-decreases-loop-committed g l = turns_left l.board.fault (g.S.Step.plan l.board.front)
+abbrev pub decreases-loop-moved : goal.decreases-loop-moved
+decreases-loop-moved g l = moves_left g.S.Step.plan l.board

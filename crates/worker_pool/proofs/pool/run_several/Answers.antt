@@ -4,7 +4,7 @@ use Rattle.faults.specs.Count.{Rose}
 use Rattle.reduce_step.specs.Ahead.{ahead}
 use Rattle.reduce_step.specs.Plan.{HasEnded, Plan, follow}
 use Rattle.verdict_table.specs.TableState.{verdict_in}
-use Rattle.reduce_journal.specs.History.{History, records_of}
+use Rattle.reduce_journal.specs.History.{History, asked_records_of, records_of}
 use Rattle.ordered_commit_moves.specs.Replay.{replay}
 use Rattle.ordered_commit.specs.declared.fault.PoolFault.{PoolFault}
 use Rattle.ordered_commit.specs.Kept.{BeginsWithin, BrokeWhereDue, IsJournal, IsOfWorker}
@@ -26,6 +26,7 @@ pub run_named-board-requires-clause-of_run : goal.run_named-board-requires-claus
 run_named-board-requires-clause-of_run g c κs within = record {
   same_first = refl;
   same_digest = refl;
+  same_kept = refl;
   same_name = refl;
   all_seats = ap (λ state. length state.seats) c.requires.board ∙ new_length (length c.args.workers.now);
   start = subst (AtStart (g.S.Step.first c.args.board.front)) (sym (ap (λ state. state.table) c.requires.board)) (λ _. omega arith);
@@ -48,6 +49,7 @@ returns-clause-outcome g c =
     let n = length c.args.workers.now in
     let first = g.S.Step.first c.args.board.front in
     let start = c.args.board.start in
+    let kept = c.args.board.kept in
     let plan = g.S.Step.plan in
     let put = g.J.Sink.put_so_far in
     let faults = g.J.Sink.faults in
@@ -55,8 +57,9 @@ returns-clause-outcome g c =
     let out = c.end.result in
     record {
       history =
-          subst (IsHistoryOf g.G.Gate.may_say first) (sym end.events)
-          (kept_history plan g.S.Step.first g.G.Gate.may_say put faults state first end.kept run.same_first);
+          subst (IsHistoryOf g.G.Gate.may_say (verdict_in kept) first) (sym end.events)
+          (kept_history plan g.S.Step.first g.G.Gate.may_say put faults state first (verdict_in kept) end.kept run.same_first
+          (ap verdict_in run.same_kept));
       begins =
           subst (λ (h : History). BeginsWithin (ahead (2 * n) first) (records_of h) []) (sym end.events)
           (begins_of plan g.S.Step.first g.G.Gate.may_say put faults state n first end.kept run.all_seats run.same_first);
@@ -83,11 +86,12 @@ returns-clause-outcome g c =
           (subst (λ history. IfSome (put state.journal) (λ p. IsJournal start state.fault history p.bytes)) (sym end.events)
           (subst (λ d. IfSome (put state.journal) (λ p. IsJournal d state.fault state.history p.bytes)) run.same_digest end.kept.journal)));
       due = λ broken.
-          subst (λ journal. IfSome (put journal) (λ p. BrokeWhereDue first start out.events.items p.bytes)) (sym end.journal)
-          (subst (λ history. IfSome (put state.journal) (λ p. BrokeWhereDue first start history p.bytes)) (sym end.events)
-          (subst (λ d. IfSome (put state.journal) (λ p. BrokeWhereDue first d state.history p.bytes)) run.same_digest
-          (subst (λ (begun : Plan). IfSome (put state.journal) (λ p. BrokeWhereDue begun state.start state.history p.bytes)) run.same_first
-          (end.kept.due (sym end.fault ∙ broken)))));
+          subst (λ journal. IfSome (put journal) (λ p. BrokeWhereDue first start kept out.events.items p.bytes)) (sym end.journal)
+          (subst (λ history. IfSome (put state.journal) (λ p. BrokeWhereDue first start kept history p.bytes)) (sym end.events)
+          (subst (λ verdicts. IfSome (put state.journal) (λ p. BrokeWhereDue first start verdicts state.history p.bytes)) run.same_kept
+          (subst (λ d. IfSome (put state.journal) (λ p. BrokeWhereDue first d state.kept state.history p.bytes)) run.same_digest
+          (subst (λ (begun : Plan). IfSome (put state.journal) (λ p. BrokeWhereDue begun state.start state.kept state.history p.bytes)) run.same_first
+          (end.kept.due (sym end.fault ∙ broken))))));
       same_name = ap (λ journal. option_map (λ p. p.name) (put journal)) end.journal ∙ run.same_name;
       rose = λ is. subst (λ journal. Rose (faults c.args.board.journal) (faults journal)) (sym end.journal) (run.rose (sym end.fault ∙ is));
       quiet = λ no. ap faults end.journal ∙ run.quiet (λ is. no (end.fault ∙ is));
@@ -115,6 +119,6 @@ returns-clause-workers g c =
           begun as_many less (named.each i d (new_seat 0) less) of_worker unfailed named.free.agree;
       total =
           ap (λ (ss : List Seat). sum (map (λ (t : Seat). t.records) ss)) (sym same) ∙ c.end.ensures.records
-          ∙ ap (λ (h : History). length (records_of h)) (sym c.end.ensures.events);
+          ∙ ap (λ (h : History). length (asked_records_of h)) (sym c.end.ensures.events);
       named = λ worker is. named_by out.fault state.seats n worker c.end.ensures.kept.workers.numbered named.run.all_seats of_worker is;
     }

@@ -1,6 +1,6 @@
 use Rattle.std.proofs.Common.{◌≡◌, ◌*◌, Some, IfSome, ap, length, option_map, refl, slice_index_or, subst, sym, ◌∙◌}
-use Rattle.reduce_journal.specs.History.{History, records_of}
-use Rattle.verdict_table.specs.TableState.{texts_of}
+use Rattle.reduce_journal.specs.History.{History, asked_records_of, records_of}
+use Rattle.verdict_table.specs.TableState.{texts_of, verdict_in}
 use Rattle.reduce_step.specs.Ahead.{ahead}
 use Rattle.ordered_commit.specs.declared.fault.BoardFault.TheVariants as board
 use Rattle.ordered_commit.specs.declared.fault.PoolFault.TheVariants.{Memory}
@@ -28,14 +28,15 @@ returns-clause-outcome g c =
     let end = c.end-outcome.ensures in
     let out = c.end-outcome.result in
     let none =
-    end.events ∙ no_history g.S.Step.plan g.S.Step.first g.G.Gate.may_say put faults n c.args.board c.args.board.start c.args.board.front
+    end.events ∙ no_history g.S.Step.plan g.S.Step.first g.G.Gate.may_say put faults n c.args.board c.args.board.start c.args.board.kept c.args.board.front
     c.args.board.journal end.kept
     c.requires.board in
     let head =
-    new_head g.S.Step.plan g.S.Step.first g.G.Gate.may_say put faults n c.args.board c.args.board.start c.args.board.front c.args.board.journal end.kept
+    new_head g.S.Step.plan g.S.Step.first g.G.Gate.may_say put faults n c.args.board c.args.board.start c.args.board.kept c.args.board.front
+    c.args.board.journal end.kept
     c.requires.board in
     record {
-      history = none_history g.G.Gate.may_say first out.events.items none;
+      history = none_history g.G.Gate.may_say (verdict_in c.args.board.kept) first out.events.items none;
       begins = begins_none (ahead (2 * n) first) out.events.items none;
       same_first = ap g.S.Step.first end.front;
       start = λ _. (
@@ -58,7 +59,7 @@ returns-clause-workers g c =
     let end = c.end-outcome.ensures in
     let none =
     end.events ∙ no_history g.S.Step.plan g.S.Step.first g.G.Gate.may_say g.J.Sink.put_so_far g.J.Sink.faults n c.args.board c.args.board.start
-    c.args.board.front
+    c.args.board.kept c.args.board.front
     c.args.board.journal end.kept c.requires.board in
     none_done g.G.Gate.log g.G.Gate.faults c.args.workers.now c.end-outcome.result.events.items none c.requires.unseated
 
@@ -71,18 +72,20 @@ returns-clause-one g c = λ d.
     let end = c.end-outcome.ensures in
     let items = c.end-outcome.result.events.items in
     let none =
-    end.events ∙ no_history g.S.Step.plan g.S.Step.first g.G.Gate.may_say put g.J.Sink.faults n c.args.board c.args.board.start c.args.board.front
+    end.events ∙ no_history g.S.Step.plan g.S.Step.first g.G.Gate.may_say put g.J.Sink.faults n c.args.board c.args.board.start c.args.board.kept
+    c.args.board.front
     c.args.board.journal end.kept
     c.requires.board in
     let head =
-    new_head g.S.Step.plan g.S.Step.first g.G.Gate.may_say put g.J.Sink.faults n c.args.board c.args.board.start c.args.board.front c.args.board.journal
+    new_head g.S.Step.plan g.S.Step.first g.G.Gate.may_say put g.J.Sink.faults n c.args.board c.args.board.start c.args.board.kept
+    c.args.board.front c.args.board.journal
     end.kept
     c.requires.board in
     record {
-      sequential = none_sequential board.Memory first (Some Memory) items refl none;
+      sequential = none_sequential board.Memory (verdict_in c.args.board.kept) first (Some Memory) items refl none;
       begun = subst (λ (h : History). BeginsWith first (records_of h)) (sym none) tt;
       one = subst (λ (h : History). EndsAtFirst first (records_of h)) (sym none) tt;
-      asked = subst (λ (h : History). log ≡ option_map (with_all_asked (texts_of (records_of h))) log) (sym none) (none_asked log);
+      asked = subst (λ (h : History). log ≡ option_map (with_all_asked (texts_of (asked_records_of h))) log) (sym none) (none_asked log);
       ended = tt;
       caused = (refl, ap g.J.Sink.faults end.journal);
       journal = subst (λ journal. IfSome (put journal) (λ p. IsJournal c.args.board.start (Some Memory) items p.bytes)) (sym end.journal)

@@ -12,7 +12,7 @@ returns-in-Recorded-clause-taken g c =
     (λ (legal : Bool). (first : Plan) (history : History)
     → IsReplayed first history (g.S.Step.plan c.args.self.now.reducer) c.args.self.now.table c.args.self.now.marks.items
     → IsTaken legal first (history ++ e ∷ []) (g.S.Step.plan c.record.new.self.reducer) c.record.new.self.table c.record.new.self.marks.items))
-    (sym c.in-Recorded.is) c.record.ensures.taken
+    (sym c.in-Recorded.is) (c.record.ensures.taken _)
 
 pub returns-in-Committed-clause-taken : goal.returns-in-Committed-clause-taken
 returns-in-Committed-clause-taken g c =
