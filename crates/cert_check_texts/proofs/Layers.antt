@@ -11,7 +11,7 @@ use Rattle.token_laws.specs.Spelling.{gap_text, spelling_at}
 use Rattle.token_print.specs.declared.style.Skips.{Skips}
 use Rattle.token_print.specs.declared.style.Style.{Style}
 use Rattle.token_print.specs.Printed.{before, printed_after, separator}
-use Rattle.cert_check_texts.specs.inner.Reached.{AreAfterBy, AreAfterFirst, AreAfterToken, AreFirst}
+use Rattle.cert_check_texts.specs.inner.Reached.{AreAfterBy, AreAfterFirst, AreAfterToken, AreFirst, AreSomeAfter}
 use Rattle.cert_check_texts.specs.inner.Reached.{CanEnd, Follows, GoesOn, LeavesOut, RiseAfter, SomeCanEnd, piece}
 use Rattle.cert_check_texts.specs.declared.reached.Reached.{Reached}
 use Rattle.cert_check_texts.proofs.Conses.{head_of, nothing_is, tail_of}
@@ -120,6 +120,17 @@ module _ (skips : Skips) (start : List ℕ) (tokens : List PlacedToken) (style :
       pub first_pairs : Can None 0 (spelling ∷ spellings) ↔ SomeCan next spellings
       first_pairs = (λ can. begin_by can (first_kept None 0 spelling spellings can can.kept refl), started)
 
+    -- From a pair after a later token the text can end so, and with this token before from one of the pairs that it is after.
+    module _ (pairs next : List Reached) (are : AreSomeAfter skips start tokens style text pairs spelling next) where
+      come_by : (pair : Reached) → Can (Some pair.last) pair.offset spellings
+          → (from : Reached) × Contains pairs from × (spelling_at start tokens pair.last ≡ spelling) × Goes (Some from.last) from.offset pair.last pair.offset
+          → SomeCan pairs (spelling ∷ spellings)
+      come_by pair can (from, among, spelled, goes) =
+          (from, among, came_from (Some from.last) from.offset pair.last pair.offset spelling spellings spelled goes can)
+
+      pub came : SomeCan next spellings → SomeCan pairs (spelling ∷ spellings)
+      came (pair, among, can) = come_by pair can (are pair among)
+
     -- the pairs after a later token
     module _ (pairs next : List Reached) (are : AreAfterToken skips start tokens style text pairs spelling next) where
       go_by : (from : Reached) → Contains pairs from → (can : Can (Some from.last) from.offset (spelling ∷ spellings))
@@ -134,18 +145,9 @@ module _ (skips : Skips) (start : List ℕ) (tokens : List PlacedToken) (style :
       went : SomeCan pairs (spelling ∷ spellings) → SomeCan next spellings
       went (from, among, can) = go_by from among can (first_kept (Some from.last) from.offset spelling spellings can can.kept refl)
 
-      come_by : (pair : Reached) → Can (Some pair.last) pair.offset spellings
-          → (from : Reached) × Contains pairs from × (spelling_at start tokens pair.last ≡ spelling) × Goes (Some from.last) from.offset pair.last pair.offset
-          → SomeCan pairs (spelling ∷ spellings)
-      come_by pair can (from, among, spelled, goes) =
-          (from, among, came_from (Some from.last) from.offset pair.last pair.offset spelling spellings spelled goes can)
-
-      came : SomeCan next spellings → SomeCan pairs (spelling ∷ spellings)
-      came (pair, among, can) = come_by pair can ((are pair).0 among)
-
       -- From some pair the text can end so exactly where it can from one of the pairs after the first token.
       pub some_next : SomeCan pairs (spelling ∷ spellings) ↔ SomeCan next spellings
-      some_next = (went, came)
+      some_next = (went, came pairs next (λ pair. (are pair).0))
 
   -- what is printed before a token that follows none of two others is the same after both
   same_before : (one other index : ℕ) → suc one < index → suc other < index → (s : Style)

@@ -1,10 +1,10 @@
 -- Which pairs are in lists that grow in loops.
-use Rattle.std.proofs.Common.{◌≡◌, ◌⊎◌, inl, inr, ◌+◌, ◌<◌, ◌≤◌, ◌++◌, ℕ, List, [], ◌∷◌, get_or, take, length, arith, sym, subst}
+use Rattle.std.proofs.Common.{◌≡◌, ◌⊎◌, inl, inr, ◌+◌, ◌<◌, ◌≤◌, ◌++◌, ℕ, List, [], ◌∷◌, drop, get_or, take, length, arith, sym, subst}
 use Rattle.std.specs.Prelude.{◌↔◌}
 use Rattle.std.specs.List.{Contains}
-use Rattle.std.proofs.lemmas.List.{take_all, take_more}
+use Rattle.std.proofs.lemmas.List.{take-append-drop, take_all, take_more}
 use Rattle.std.proofs.lemmas.List.Elements.{Contains-append_cases, Contains-append_left, Contains-append_right, Contains-push, Contains-push_cases}
-use Rattle.cert_check_texts.specs.inner.Reached.{AreOfBoth, AreWith, SomeOf}
+use Rattle.cert_check_texts.specs.inner.Reached.{AreAmong, AreOfBoth, AreWith, SomeOf}
 use Rattle.cert_check_texts.specs.declared.reached.Reached.{Reached}
 
 -- an empty list has none
@@ -86,3 +86,11 @@ both_lists pairs others joined all is same pair = (
     back : Contains pairs pair ⊎ Contains others pair → Contains (pairs ++ others) pair
     back (inl at) = Contains-append_left pairs others pair at
     back (inr at) = Contains-append_right pairs others pair at
+
+-- the first of the same pairs are among them
+pub first_among : (count : ℕ) (pairs all few : List Reached) → few ≡ take count all → ((pair : Reached) → Contains all pair ↔ Contains pairs pair)
+    → AreAmong few pairs
+first_among count pairs all few is same pair at =
+    let front : Contains (take count all) pair = subst (λ (l : List Reached). Contains l pair) is at in
+    (same pair).0 (subst (λ (l : List Reached). Contains l pair) (take-append-drop count all)
+    (Contains-append_left (take count all) (drop count all) pair front))

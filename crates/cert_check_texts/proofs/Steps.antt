@@ -6,7 +6,7 @@ use Rattle.std.specs.List.{Contains}
 use Rattle.std.proofs.lemmas.List.{drop_all, drop_more, length-map}
 use Rattle.std.proofs.lemmas.List.Elements.{Contains-get_or}
 use Rattle.cert_check_texts.specs.inner.Reached.{AreWith, Follows, LeavesOut, SomeOf}
-use Rattle.cert_check_texts.specs.inner.Print.{AreAfterBy, AreAfterFirst, AreAfterToken, CanEnd, GoesOn, IsLaidOut}
+use Rattle.cert_check_texts.specs.inner.Print.{AreAfterBy, AreAfterFirst, AreAfterToken, AreOf, AreSomeAfter, CanEnd, GoesOn, IsLaidOut}
 use Rattle.cert_check_texts.specs.inner.Print.{LeadsTo, LeadsToLater, LeadsToNext, SomeCanEnd, tokens_in}
 use Rattle.cert_check_texts.specs.inner.Numbers.{listed_with}
 use Rattle.cert_check_texts.specs.declared.reached.Reached.{Reached}
@@ -15,7 +15,7 @@ use Rattle.cert_check_texts.specs.declared.prints.Print.{Print}
 use Rattle.lexer.specs.Tokens.{token_of}
 use Rattle.lexer.specs.declared.token.Token.{Token}
 use Rattle.token_laws.specs.Spelling.{spelling, spelling_at}
-use Rattle.cert_check_texts.proofs.Layers.{first_pairs, some_next}
+use Rattle.cert_check_texts.proofs.Layers.{came, first_pairs, some_next}
 use Rattle.cert_check_texts.proofs.Members.{none_in}
 
 -- what is new to an empty list is all that is in it
@@ -36,6 +36,15 @@ pub lists_of : (p : Print) → IsLaidOut p → (spelling list : List ℕ) → li
 lists_of p laid spelling list is index =
     subst (λ (l : List ℕ). Contains l index ↔ ((index < length (tokens_in p)) × (spelling_at p.layout.start.now (tokens_in p) index ≡ spelling))) (sym is)
     (laid.equal.listed spelling index)
+
+-- they are of the spelling
+pub are_of : (p : Print) → IsLaidOut p → (spelling list : List ℕ) → list ≡ listed_with p.equal.now spelling → AreOf p spelling list
+are_of p laid spelling list is index = (lists_of p laid spelling list is index).0
+
+-- such tokens are there
+pub there_of_all : (p : Print) (spelling list : List ℕ) → AreOf p spelling list → (index : ℕ) → Contains list index → index < length p.layout.tokens.now
+there_of_all p spelling list are index among =
+    let there = (are index among).0 in omega (arith, there, length-map p.layout.tokens.now token_of)
 
 -- each of them is there
 pub there_of : (p : Print) → IsLaidOut p → (spelling list : List ℕ) → list ≡ listed_with p.equal.now spelling → (i d : ℕ) → i < length list
@@ -152,6 +161,35 @@ later_leads p from index before after out are pair = (λ at. forward ((are pair)
 pub none_out : (p : Print) (from : Reached) (index : ℕ) → (LeavesOut from.last index → ⊥) → (pair : Reached) → LeadsToLater p index from pair → ⊥
 none_out p from index not pair (out, leads) = not out
 
+-- One more token is tried, before which one at least is left out.
+pub some_later : (p : Print) (spelling : List ℕ) (froms : List Reached) (from : Reached) (index : ℕ) (before after : List Reached)
+    → spelling_at p.layout.start.now (tokens_in p) index ≡ spelling → Contains froms from
+    → AreSomeAfter p froms spelling before → AreWith before (LeadsToLater p index from) after → AreSomeAfter p froms spelling after
+some_later p spelling froms from index before after spelled among are with pair at = by ((with pair).0 at)
+  where
+    Origin : Type 0
+    Origin =
+        (from : Reached) × Contains froms from × (spelling_at p.layout.start.now (tokens_in p) pair.last ≡ spelling)
+        × GoesOn p (Some from.last) from.offset pair.last pair.offset
+
+    by : Contains before pair ⊎ LeadsToLater p index from pair → Origin
+    by (inl old) = are pair old
+    by (inr (out, (same, goes))) = (
+      from,
+      among,
+      subst (λ (i : ℕ). spelling_at p.layout.start.now (tokens_in p) i ≡ spelling) (sym same) spelled,
+      subst (λ (i : ℕ). GoesOn p (Some from.last) from.offset i pair.offset) (sym same) goes,
+    )
+
+-- the tokens that follow are some after
+pub some_follow : (p : Print) (spelling : List ℕ) (pairs nexts : List Reached) → AreAfterBy p Follows pairs spelling nexts → AreSomeAfter p pairs spelling nexts
+some_follow p spelling pairs nexts are pair at = by ((are pair).0 at)
+  where
+    by : NextFrom p spelling pairs pair
+        → (from : Reached) × Contains pairs from × (spelling_at p.layout.start.now (tokens_in p) pair.last ≡ spelling)
+        × GoesOn p (Some from.last) from.offset pair.last pair.offset
+    by (from, among, follows, spelled, goes) = (from, among, spelled, goes)
+
 -- ---- from token to token
 
 module _ (p : Print) (found : List ℕ) (spelled : List Token) where
@@ -171,6 +209,24 @@ module _ (p : Print) (found : List ℕ) (spelled : List Token) where
       ap (λ (l : List Token). map (spelling found) (map token_of l)) (drop_more spelled i d within) in
       let so = subst (λ (l : List (List ℕ)). whole ↔ SomeCanEnd p reached l) first before in
       (λ w. further.0 (so.0 w), λ s. so.1 (further.1 s))
+
+  -- one token further along some of the pairs
+  pub few_next : (whole : Type 0) (reached next : List Reached) (i : ℕ) (d : Token) → i < length spelled → (SomeCanEnd p reached (Remaining i) → whole)
+      → AreSomeAfter p reached (spelling found (token_of (get_or spelled i d))) next
+      → SomeCanEnd p next (Remaining (i + 1)) → whole
+  few_next whole reached next i d within before are some =
+      let further =
+      came p.layout.skips p.layout.start.now (tokens_in p) p.layout.style p.text.now (spelling found (token_of (get_or spelled i d)))
+      (Remaining (i + 1)) reached next are some in
+      let first : Remaining i ≡ spelling found (token_of (get_or spelled i d)) ∷ Remaining (i + 1) =
+      ap (λ (l : List Token). map (spelling found) (map token_of l)) (drop_more spelled i d within) in
+      before (subst (λ (l : List (List ℕ)). SomeCanEnd p reached l) (sym first) further)
+
+  -- and after the last token
+  pub few_all : (whole : Type 0) (reached : List Reached) (i : ℕ) → length spelled ≤ i → (SomeCanEnd p reached (Remaining i) → whole)
+      → SomeCanEnd p reached [] → whole
+  few_all whole reached i past before =
+      subst (λ (l : List Token). SomeCanEnd p reached (map (spelling found) (map token_of l)) → whole) (drop_all i spelled past) before
 
   -- where no pair is reached, none can be ended from
   pub none_reached : (whole : Type 0) (reached : List Reached) (i : ℕ) → length reached ≡ 0 → whole ↔ SomeCanEnd p reached (Remaining i) → whole → ⊥

@@ -19,6 +19,10 @@
 //! tables grow with the grammar too. Between the two, a print is gone through in each style, token by
 //! token of the text, up to one more than the start has:
 //!
+//! - First only the 8 least pairs are gone on from. For each token of the text they are tried with the
+//!   token that follows, and the first of them with the next 8 tokens of this spelling. So a token needs
+//!   16 tries at most, but the one after the first. Where the text's end is reached, it is printed so.
+//! - Where it isn't, all pairs are gone on from.
 //! - For each token of the text, each pair is tried with the token that follows, and each offset with the
 //!   start's tokens of this spelling. A try takes at most the bytes of a gap and a spelling; and the
 //!   pairs that are reached are sorted.

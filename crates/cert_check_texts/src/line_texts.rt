@@ -53,7 +53,7 @@ impl<'s, 'k> Candidates for LineTexts<'s, 'k> {
 }
 
 /// The index of the first of these numbers, which rise, that is no less than this one; or how many there are.
-fn index_from(numbers: &[u32], from: usize) -> usize
+pub(crate) fn index_from(numbers: &[u32], from: usize) -> usize
     requires { IsStrictlyIncreasing numbers.now }
     ensures before { (k : ℕ) → k < result → slice_index numbers.now k < from }
     ensures others { (k : ℕ) → result ≤ k → k < length numbers.now → from ≤ slice_index numbers.now k }

@@ -1,17 +1,20 @@
 //! Whether a text is printed in one style of some of a start's tokens.
 
-ghost use Rattle.std.specs.Prelude.{◌≡◌, ◌↔◌, ◌<◌, ◌^◌, ℕ, [], All, None, Some, IfOk, IsTrue, MatchOption, OnOk, length, map, nat_eq, cond, suc};
+ghost use Rattle.std.specs.Prelude.{◌≡◌, ◌↔◌, ◌<◌, ◌^◌, ℕ, List, [], All, None, Some, IfOk, IsTrue, MatchOption, OnOk, length, map, nat_eq, cond, suc};
 ghost use Rattle.lexer.specs.Tokens.{token_of};
 ghost use Rattle.token_laws.specs.Laws.{AreInOrder, IsSlice};
 ghost use Rattle.token_laws.specs.Spelling.{gap_text, spelling, spelling_at};
 ghost use Rattle.token_print.specs.Printed.{before, separator};
+ghost use Rattle.std.specs.List.{Contains};
+ghost use Rattle.cert_check_texts.specs.declared.reached.Reached.{Reached as SomeReached};
 ghost use Rattle.cert_check_texts.specs.inner.Reached.{AreSeparators, AreSorted, AreWith, Follows, IsAfter, LeavesOut, SomeOf};
 ghost use Rattle.cert_check_texts.specs.inner.Print.{AreAfterBy, AreAfterFirst, AreAfterToken, CanEnd, GoesOn, IsLaidOut};
-ghost use Rattle.cert_check_texts.specs.inner.Print.{LeadsTo, LeadsToLater, LeadsToNext, SomeCanEnd, tokens_in};
+ghost use Rattle.cert_check_texts.specs.inner.Print.{AreOf, AreSomeAfter, LeadsTo, LeadsToLater, LeadsToNext, SomeCanEnd, tokens_in};
 
+use crate::line_texts::index_from;
 use crate::numbers::Numbers;
 use crate::prefix::{rest_after, rest_from};
-use crate::reached::{Reached, first_pairs, united};
+use crate::reached::{FEW, Reached, first_few, first_pairs, united};
 use faults::Memory;
 use lexer::Token;
 use std::alloc::Global;
@@ -282,8 +285,80 @@ impl<'a, 's> Print<'a, 's> {
         false
     }
 
-    /// Whether the text goes on from one of these pairs to its end with the tokens of these spellings.
-    fn ends_from(&self, pairs: Vec<Reached>, found: &str, spelled: &[Token]) -> Result<bool, Memory>
+    /// Adds what is reached from the pair after the token in this place among those of a spelling, if there
+    /// is one, and one at least is left out before it.
+    fn add_later_at(
+        &self,
+        pairs: &mut Vec<Reached>,
+        from: Reached,
+        equal: &[u32],
+        place: usize,
+    ) -> Result<(), Memory>
+        requires laid { IsLaidOut self.now }
+        requires there { (index : ℕ) → Contains equal.now index → index < length self.now.layout.tokens.now }
+        ensures { OnOk result ((spelling : List ℕ) (froms : List SomeReached) → AreOf self.now spelling equal.now → Contains froms from
+            → AreSomeAfter self.now froms spelling pairs.old.items → AreSomeAfter self.now froms spelling pairs.new.items) }
+    {
+        match equal.get(place) {
+            None => Ok(()),
+            Some(index) => self.add_later(pairs, from, *index),
+        }
+    }
+
+    /// The first of what is reached after a token of this spelling: the one that follows, from each pair, or
+    /// one of the first few before which one at least is left out, from this pair.
+    fn few_after_from(
+        &self,
+        reached: &[Reached],
+        from: Reached,
+        spelling: &str,
+    ) -> Result<Vec<Reached>, Memory>
+        requires laid { IsLaidOut self.now }
+        requires among { Contains reached.now from }
+        ensures { IfOk result (λ few. AreSomeAfter self.now reached.now spelling.now few.items) }
+    {
+        let equal = self.equal.with(spelling.as_bytes());
+        let begin = index_from(equal, from.last as usize + 2);
+        let mut pairs = self.after_next_token(reached, spelling)?;
+        for step in 0..FEW {
+            self.add_later_at(&mut pairs, from, equal, begin.saturating_add(step))?;
+        }
+        Ok(first_few(pairs))
+    }
+
+    /// The first of what is reached after a token of this spelling, from these pairs.
+    fn few_after(&self, reached: &[Reached], spelling: &str) -> Result<Vec<Reached>, Memory>
+        requires { IsLaidOut self.now }
+        ensures { IfOk result (λ few. AreSomeAfter self.now reached.now spelling.now few.items) }
+    {
+        match reached.split_first() {
+            None => Ok(Vec::new(self.alloc)),
+            Some((first, _)) => self.few_after_from(reached, *first, spelling),
+        }
+    }
+
+    /// Whether the text goes on so to its end along the first few pairs that are reached each time. It may
+    /// along others where it doesn't along these.
+    fn ends_by_few(&self, pairs: &[Reached], found: &str, spelled: &[Token]) -> Result<bool, Memory>
+        requires laid { IsLaidOut self.now }
+        requires slices { All (λ t. IsSlice found.now t.start t.end) spelled.now }
+        ensures { IfOk result (λ ends. IsTrue ends → SomeCanEnd self.now pairs.now (map (spelling found.now) (map token_of spelled.now))) }
+    {
+        let mut reached = Vec::from_slice(self.alloc, pairs)?;
+        for token in spelled {
+            reached = self.few_after(&reached, spelling(found, *token))?;
+        }
+        Ok(self.ends_at_some(&reached))
+    }
+
+    /// Whether the text goes on from one of these pairs to its end with the tokens of these spellings. All
+    /// pairs that are reached are gone on from.
+    fn ends_by_all(
+        &self,
+        pairs: Vec<Reached>,
+        found: &str,
+        spelled: &[Token],
+    ) -> Result<bool, Memory>
         requires laid { IsLaidOut self.now }
         requires slices { All (λ t. IsSlice found.now t.start t.end) spelled.now }
         ensures { IfOk result (λ ends. IsTrue ends ↔ SomeCanEnd self.now pairs.items (map (spelling found.now) (map token_of spelled.now))) }
@@ -296,6 +371,20 @@ impl<'a, 's> Print<'a, 's> {
             reached = self.after_token(&reached, spelling(found, *token))?;
         }
         Ok(self.ends_at_some(&reached))
+    }
+
+    /// Whether the text goes on from one of these pairs to its end with the tokens of these spellings. The
+    /// first few pairs are tried first.
+    fn ends_from(&self, pairs: Vec<Reached>, found: &str, spelled: &[Token]) -> Result<bool, Memory>
+        requires laid { IsLaidOut self.now }
+        requires slices { All (λ t. IsSlice found.now t.start t.end) spelled.now }
+        ensures { IfOk result (λ ends. IsTrue ends ↔ SomeCanEnd self.now pairs.items (map (spelling found.now) (map token_of spelled.now))) }
+    {
+        let by_few = self.ends_by_few(&pairs, found, spelled)?;
+        if by_few {
+            return Ok(true);
+        }
+        self.ends_by_all(pairs, found, spelled)
     }
 
     /// Whether the text is printed of some of the start's tokens, whose spellings these tokens of

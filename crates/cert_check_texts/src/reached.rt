@@ -2,11 +2,14 @@
 
 ghost use Rattle.std.specs.Prelude.{◌≡◌, ◌≤◌, ◌∷◌, ◌++◌, ◌↔◌, [], List, IfOk, IsTrue, OnOk};
 ghost use Rattle.std.specs.List.{Contains};
-ghost use Rattle.cert_check_texts.specs.inner.Reached.{AreFirst, AreOfBoth, AreSorted, HasFirst};
+ghost use Rattle.cert_check_texts.specs.inner.Reached.{AreAmong, AreFirst, AreOfBoth, AreSorted, HasFirst};
 ghost use Rattle.cert_check_texts.specs.declared.reached.Reached.{Reached as SomeReached};
 
 use faults::Memory;
 use std::alloc::Global;
+
+/// How many pairs are gone on from at first, and how many later tokens are tried then.
+pub(crate) const FEW: usize = 8;
 
 /// What is reached in a text that is printed of tokens: an offset in the text, in bytes from 0, and the number
 /// of the last token before it, from 0. The order is that of the offsets, and at one offset that of the tokens.
@@ -72,4 +75,13 @@ pub(crate) fn united(mut pairs: Vec<Reached>, others: &[Reached]) -> Result<Vec<
 {
     pairs.extend_from_slice(others)?;
     Ok(sorted(pairs))
+}
+
+/// The first few of these pairs, sorted, and each once. It takes time in proportion to them, times a logarithm.
+pub(crate) fn first_few(pairs: Vec<Reached>) -> Vec<Reached>
+    ensures { AreAmong result.items pairs.items }
+{
+    let mut few = sorted(pairs);
+    few.truncate(FEW);
+    few
 }

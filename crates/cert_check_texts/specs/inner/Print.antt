@@ -1,5 +1,6 @@
 -- A text beside the layout of the print that it may be: what is said in Reached, of its layout and its text.
 use Rattle.std.specs.Prelude.{◌≡◌, ◌<◌, ◌^◌, ℕ, List, Option, Some, length, map}
+use Rattle.std.specs.List.{Contains}
 use Rattle.grammar_tree.specs.Lexes.{PlacedToken}
 use Rattle.lexer.specs.Tokens.{token_of}
 use Rattle.token_laws.specs.Laws.{AreInOrder}
@@ -36,6 +37,9 @@ AreAfterFirst p = steps.AreAfterFirst p.layout.skips p.layout.start.now (tokens_
 abbrev pub AreAfterBy : Print → (ℕ → ℕ → Type 0) → List Reached → List ℕ → List Reached → Type 0
 AreAfterBy p = steps.AreAfterBy p.layout.skips p.layout.start.now (tokens_in p) p.layout.style p.text.now
 
+abbrev pub AreSomeAfter : Print → List Reached → List ℕ → List Reached → Type 0
+AreSomeAfter p = steps.AreSomeAfter p.layout.skips p.layout.start.now (tokens_in p) p.layout.style p.text.now
+
 abbrev pub AreAfterToken : Print → List Reached → List ℕ → List Reached → Type 0
 AreAfterToken p = steps.AreAfterToken p.layout.skips p.layout.start.now (tokens_in p) p.layout.style p.text.now
 
@@ -52,3 +56,8 @@ LeadsToNext p spelling from pair =
 -- from the one pair it does with this token, before which one at least is left out
 abbrev pub LeadsToLater : Print → ℕ → Reached → Reached → Type 0
 LeadsToLater p index from pair = LeavesOut from.last index × LeadsTo p (Some from.last) from.offset index pair
+
+-- Each of these numbers is that of a token of this spelling.
+abbrev pub AreOf : Print → List ℕ → List ℕ → Type 0
+AreOf p spelling list =
+    (index : ℕ) → Contains list index → (index < length (tokens_in p)) × (spelling_at p.layout.start.now (tokens_in p) index ≡ spelling)

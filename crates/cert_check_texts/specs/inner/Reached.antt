@@ -58,6 +58,11 @@ module _ (skips : Skips) (start : List ℕ) (tokens : List PlacedToken) (style :
       ((from : Reached) × Contains pairs from × Comes from.last pair.last × (spelling_at start tokens pair.last ≡ spelling)
       × GoesOn (Some from.last) from.offset pair.last pair.offset)
 
+  -- Each of these pairs is so after a token of this spelling, from one of those pairs.
+  abbrev pub AreSomeAfter : List Reached → List ℕ → List Reached → Type 0
+  AreSomeAfter pairs spelling next = (pair : Reached) → Contains next pair →
+      ((from : Reached) × Contains pairs from × (spelling_at start tokens pair.last ≡ spelling) × GoesOn (Some from.last) from.offset pair.last pair.offset)
+
   -- These are all of them.
   abbrev pub AreAfterToken : List Reached → List ℕ → List Reached → Type 0
   AreAfterToken pairs spelling next = (pair : Reached) → Contains next pair ↔
@@ -82,6 +87,10 @@ SomeOf {A} list Is = (one : A) × Contains list one × Is one
 -- These are the pairs that were there before, and the new ones.
 abbrev pub AreWith : List Reached → (Reached → Type 0) → List Reached → Type 0
 AreWith before IsNew pairs = (pair : Reached) → Contains pairs pair ↔ (Contains before pair ⊎ IsNew pair)
+
+-- Each of the one list is in the other.
+abbrev pub AreAmong : List Reached → List Reached → Type 0
+AreAmong few pairs = (pair : Reached) → Contains few pair → Contains pairs pair
 
 -- These are the pairs of both lists.
 abbrev pub AreOfBoth : List Reached → List Reached → List Reached → Type 0

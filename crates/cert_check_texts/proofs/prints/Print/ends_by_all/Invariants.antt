@@ -2,7 +2,7 @@ use Rattle.std.specs.Prelude.{◌↔◌, drop, map}
 use Rattle.lexer.specs.Tokens.{token_of}
 use Rattle.token_laws.specs.Spelling.{spelling}
 use Rattle.cert_check_texts.specs.inner.Print.{SomeCanEnd}
-use Rattle.cert_check_texts.proofs.prints.Print.ends_from.Given as goal
+use Rattle.cert_check_texts.proofs.prints.Print.ends_by_all.Given as goal
 
 abbrev pub invariant-loop-token : goal.invariant-loop-token
 invariant-loop-token l =
