@@ -15,7 +15,7 @@ _perses() {
         previous=${COMP_WORDS[COMP_CWORD - 2]}
     fi
     case $previous in
-    --input | --output | --script | --grammar | --lexer | --journal)
+    --input | --output | --script | --grammar | --lexer | --journal | --resume)
         mapfile -t COMPREPLY < <(compgen -f -- "$word")
         compopt -o filenames
         return
@@ -40,7 +40,7 @@ _perses() {
     [[ ${COMP_WORDS[*]} =~ \ --mode\ (=\ )?lines( |$) ]] && by_grammar=''
     case $command in
     reduce)
-        options="--input --output --script --mode --jobs --journal --work --keep --protect --protect-text --only $by_grammar"
+        options="--input --output --script --mode --jobs --journal --resume --work --keep --protect --protect-text --only $by_grammar"
         ;;
     normal) options='--grammar --lexer --start' ;;
     selftest) options='--number --size --mode' ;;

@@ -11,7 +11,7 @@
 // Not covered: opcodes and types that came after LLVM 14.
 //
 // Measured on Debian's llvm-toolchain-14: of 1,129 files of `llvm/test/Transforms`, taken at random from its 7,271,
-// 1,128 parse. The other one is longer than the 262,144 bytes that `perses` takes.
+// 1,128 parse. The other one has more than 262,144 bytes, and was not tried.
 grammar LLVM;
 
 module : entry* EOF ;

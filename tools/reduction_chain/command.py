@@ -42,8 +42,8 @@ def modes(text):
 def main():
     signal.signal(signal.SIGTERM, lambda *_: sys.exit(128 + signal.SIGTERM))
     arguments, passed_on = words().parse_known_args()
-    if any(word.split("=")[0] in ("--mode", "--journal") for word in passed_on):
-        return refused(BAD_COMMAND_LINE, "a chain has modes and journals of its own: neither --mode nor --journal")
+    if any(word.split("=")[0] in ("--mode", "--journal", "--resume") for word in passed_on):
+        return refused(BAD_COMMAND_LINE, "a chain has modes and journals of its own: no --mode, --journal or --resume")
     if any(word.split("=")[0] in ("--protect", "--only") for word in passed_on):
         return refused(BAD_COMMAND_LINE, "each step of a chain has other line numbers: neither --protect nor --only")
     try:

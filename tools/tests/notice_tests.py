@@ -171,7 +171,7 @@ class Notices(unittest.TestCase):
         words = ["reduce", *TREES, "--lexer", "l", "--script", "s"]
         self.says(3, "perses: l: No such file or directory (os error 2)\n", *words)
         self.write("l", "lexer grammar L;\nA : 'a' ;\n" + "\n" * 1048576)
-        self.says(10, "perses: l is too long: an input has at most 262144 bytes, a grammar 1048576\n", *words)
+        self.says(10, "perses: l is too long: an input or a grammar has at most 1048576 bytes, a journal 1073741824\n", *words)
         self.write("l", "lexer grammar L;\nA : 'a' ;\n")
         self.says(6, "perses: t:1:2: no token at byte 1\na=1;\n ^\nperses: no lexer rule of l matches what begins there\n", *words)
         self.write("t", "aa")
@@ -243,8 +243,8 @@ class Notices(unittest.TestCase):
         self.says(9, "perses: i doesn't hold 'z z'\n", "reduce", *LINES, "--script", "s", "--keep", "a", "--keep", "z z")
 
     def test_long_inputs(self):
-        self.write("i", "\n" * 262145)
-        self.says(10, "perses: i is too long: an input has at most 262144 bytes, a grammar 1048576\n", "reduce", *LINES, "--script", "s")
+        self.write("i", "\n" * 1048577)
+        self.says(10, "perses: i is too long: an input or a grammar has at most 1048576 bytes, a journal 1073741824\n", "reduce", *LINES, "--script", "s")
 
     def test_files_of_a_run(self):
         self.run_plain("reduce", *LINES, "--script", "s")

@@ -67,8 +67,14 @@ fn add_record(
 /// The records of the journal, each on a line.
 fn add_records(shown: &mut String, alloc: Global, events: &[Event]) -> Result<()> {
     for event in events {
-        if let Event::Recorded { text, verdict, .. } = event {
-            add_record(shown, alloc, "", text, *verdict)?;
+        if let Event::Recorded {
+            text,
+            verdict,
+            kept,
+        } = event
+        {
+            let word = if *kept { "kept " } else { "" };
+            add_record(shown, alloc, word, text, *verdict)?;
         }
     }
     Ok(())
@@ -115,15 +121,17 @@ fn add_used(shown: &mut String, alloc: Global, events: &[Event]) -> Result<()> {
     Ok(())
 }
 
-/// How many records the journal has.
-fn record_count(events: &[Event]) -> u64 {
-    let mut count: u64 = 0;
+/// How many records the journal has, and how many of these are of asks.
+fn record_counts(events: &[Event]) -> (u64, u64) {
+    let mut all: u64 = 0;
+    let mut asked: u64 = 0;
     for event in events {
-        if matches!(event, Event::Recorded { .. }) {
-            count = count.saturating_add(1);
+        if let Event::Recorded { kept, .. } = event {
+            all = all.saturating_add(1);
+            asked = asked.saturating_add(u64::from(!*kept));
         }
     }
-    count
+    (all, asked)
 }
 
 /// The journal's name and events, where it was opened.
@@ -152,12 +160,17 @@ fn add_journal(
     Ok(())
 }
 
-/// How many of the texts that were asked are those of the records, in their order; none where a record is
-/// of another text.
+/// How many of the texts that were asked are those of the records that aren't kept, in their order; none
+/// where such a record is of another text.
 fn recorded_of(asked: &[Bytes], events: &[Event]) -> Option<usize> {
     let mut count = 0;
     for event in events {
-        if let Event::Recorded { text, .. } = event {
+        if let Event::Recorded {
+            text,
+            kept: false,
+            ..
+        } = event
+        {
             if asked.get(count)?.as_slice() != text.as_slice() {
                 return None;
             }
@@ -257,6 +270,7 @@ pub fn shown(
     let mut shown = format!(in alloc; "    status {}", outcome.ended.status)?;
     let journal = &outcome.ended.journal;
     let (events, torn) = events_of(alloc, journal)?;
+    let (records, recorded) = record_counts(&events);
     if !outcome.out.bytes().is_empty() {
         add_line(&mut shown, "put")?;
         match workers {
@@ -266,7 +280,7 @@ pub fn shown(
                 alloc,
                 str::from_utf8(outcome.out.bytes())?,
                 opened_count(logs),
-                record_count(&events),
+                records,
             )?,
         }
     }
@@ -275,7 +289,7 @@ pub fn shown(
     add_openings(&mut shown, alloc, logs)?;
     match (workers, logs.first()) {
         (Workers::One, Some(log)) => add_asks(&mut shown, log, &events)?,
-        _ if asked != record_count(&events) => add_line(
+        _ if asked != recorded => add_line(
             &mut shown,
             "more or fewer texts were asked than recorded",
         )?,

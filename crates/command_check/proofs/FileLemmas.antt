@@ -2,8 +2,7 @@
 use Rattle.std.proofs.Common.{arith, ◌≡◌, ◌≤◌, ℕ, List, length, Option, Some, Err, true, string_bytes, ◌∙◌, ap, refl, sym, subst}
 use Rattle.std.specs.Global.{Vec}
 use Rattle.std.specs.Prelude.{◌==◌, if◌then◌else◌}
-use Rattle.std.proofs.Math.Path.{fun_ext}
-use Rattle.edge_io.specs.Files.{FileContent, Holds, IsLonger, SameFiles}
+use Rattle.edge_io.specs.Files.{Holds, IsLonger}
 use Rattle.grammar_tree.specs.Faults.{IsWellFormed}
 use Rattle.keep_guard.specs.Keep.{holds_all, keeps_admit}
 use Rattle.script_gate_trait.specs.declared.shared_bytes.Bytes.{Bytes}
@@ -45,12 +44,6 @@ use Rattle.command_words.specs.Commands.{CheckOptions, GrammarOptions, ModeOptio
 use Rattle.command_check.specs.Check.{ConfirmedIn, FoundIn, IsFileReached, IsJournalReached, IsResultReached, RunRead, checked_problem, path_of_file}
 use Rattle.command_check.specs.Check.CheckEnds.{memory, unread, faulty, no_token, unparsed, keep_missing, too_long, no_head, bad_event, not_confirmed}
 use Rattle.command_check.specs.inner.Check.{CheckFails, IsCauseRefusal, IsSetupRead}
-
--- files that are as before, without a failed call, are seen as before
-pub same_seen : (files files' : SeenFiles) → SameFiles files.shown files'.shown → IsQuiet files files' → files' ≡ files
-same_seen files files' same quiet =
-    ap (λ (shown : List ℕ → Option FileContent). record { shown = shown; faults = files'.faults }) (fun_ext same)
-    ∙ ap (λ (faults : ℕ). record { shown = files.shown; faults = faults }) quiet
 
 module _ (options : CheckOptions) (files files' : SeenFiles) where
   -- the files of the problem are read as files of the run

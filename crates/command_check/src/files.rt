@@ -12,7 +12,7 @@ ghost use Rattle.command_ends.specs.Status.{KeepsFail};
 ghost use Rattle.command_ends.specs.World.{IsQuiet, seen};
 
 use cert_check::Setup;
-use command_ends::{NamedFile, Refusal, held_texts, read_file, read_input};
+use command_ends::{JOURNAL_LIMIT, NamedFile, Refusal, held_texts, read_file, read_input};
 use command_problem::{ReadTree, read_tree};
 use command_words::{CheckLine, GrammarLine, ModeLine};
 use edge_io::Files;
@@ -24,9 +24,6 @@ use std::alloc::Global;
 
 /// The longest result, in bytes.
 const RESULT_LIMIT: u64 = 1_048_576;
-
-/// The longest journal, in bytes.
-const JOURNAL_LIMIT: u64 = 1_073_741_824;
 
 /// The bytes of texts, in their order.
 fn bytes_of(alloc: Global, texts: &[&str]) -> Result<Vec<Bytes>, Memory>

@@ -1,8 +1,9 @@
 -- What is visible of a file can't be at odds with what was read.
-use Rattle.std.proofs.Common.{◌≡◌, ◌≤◌, ℕ, List, length, Option, Some, None, arith, ap, subst}
+use Rattle.std.proofs.Common.{◌≡◌, ◌≤◌, ℕ, List, length, Option, Some, None, arith, ap, ◌∙◌, subst}
 use Rattle.std.proofs.lemmas.Option.{same_Some}
-use Rattle.edge_io.specs.Files.{FileContent, Holds, IsLonger}
-use Rattle.command_ends.specs.World.{IsOver, IsShownWithin, WasRead}
+use Rattle.std.proofs.Math.Path.{fun_ext}
+use Rattle.edge_io.specs.Files.{FileContent, Holds, IsLonger, SameFiles}
+use Rattle.command_ends.specs.World.{IsOver, IsQuiet, IsShownWithin, SeenFiles, WasRead}
 
 -- a file that was read within a limit isn't over it
 pub not_over : (limit : ℕ) (content : Option FileContent) (bytes : List ℕ) → Holds bytes content → length bytes ≤ limit → IsOver limit content → ⊥
@@ -41,3 +42,9 @@ pub longer_not_missing : (limit : ℕ) (content : Option FileContent) → IsLong
 longer_not_missing limit None longer is = absurd (cc is)
 longer_not_missing limit (Some None) longer is = absurd (cc longer.1)
 longer_not_missing limit (Some (Some held)) longer is = absurd (cc is)
+
+-- files that are as before, without a failed call, are seen as before
+pub same_seen : (files files' : SeenFiles) → SameFiles files.shown files'.shown → IsQuiet files files' → files' ≡ files
+same_seen files files' same quiet =
+    ap (λ (shown : List ℕ → Option FileContent). record { shown = shown; faults = files'.faults }) (fun_ext same)
+    ∙ ap (λ (faults : ℕ). record { shown = files.shown; faults = faults }) quiet

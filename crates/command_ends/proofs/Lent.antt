@@ -1,2 +1,2 @@
 -- What other crates' proofs cite of this crate's.
-pub use Rattle.command_ends.proofs.FileLemmas.{read_not_over, not_both, not_longer, read_not_missing, longer_not_missing}
+pub use Rattle.command_ends.proofs.FileLemmas.{read_not_over, not_both, not_longer, read_not_missing, longer_not_missing, same_seen}

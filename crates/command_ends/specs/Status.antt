@@ -1,6 +1,7 @@
 -- The refusals of the program: the status and the line of each, and which of them a step may give. The texts are
 -- also written where the ends of each command are defined, so that those can be read by themselves.
 use Rattle.std.specs.Prelude.{◌≡◌, ◌⊎◌, ℕ, ◌+◌, ◌==◌, List, ◌++◌, IsTrue, Option, Some, codes, string_bytes}
+use Rattle.hex.specs.Hex.{encode_lower}
 use Rattle.std.specs.List.{list_any}
 use Rattle.std.specs.Fmt.{decimal}
 use Rattle.edge_io.specs.Files.{FileContent, IsLonger}
@@ -8,6 +9,7 @@ use Rattle.keep_guard.specs.Keep.{first_missing}
 use Rattle.reduce_trees_input.specs.FaultText.{input_fault_text}
 use Rattle.reduce_trees_input.specs.declared.fault.InputFault.{InputFault}
 use Rattle.reduce_trees_input.specs.declared.fault.InputFault.TheVariants as input_fault
+use Rattle.reduce_journal.specs.declared.digest.Digest.{Digest}
 use Rattle.reduce_journal.specs.declared.read.JournalFault.{JournalFault}
 use Rattle.reduce_journal.specs.declared.read.JournalFault.TheVariants as journal_fault
 use Rattle.run_gated.specs.declared.fault.RunFault.{RunFault}
@@ -16,7 +18,8 @@ use Rattle.command_ends.specs.declared.status.NamedFile.{NamedFile}
 use Rattle.command_ends.specs.declared.status.NamedFile.TheVariants as read
 use Rattle.command_ends.specs.declared.status.Refusal.{Refusal}
 use Rattle.command_ends.specs.declared.status.Refusal.TheVariants.{Memory, Usage, CannotRead, CannotWrite, Grammar, Uncut, NoParse}
-use Rattle.command_ends.specs.declared.status.Refusal.TheVariants.{NotInteresting, KeepMissing, TooLong, Script, Journal, BadJournal, NotConfirmed, BeyondLines}
+use Rattle.command_ends.specs.declared.status.Refusal.TheVariants.{NotInteresting, KeepMissing, TooLong, Script, Journal, OtherStart, BadJournal, NotConfirmed}
+use Rattle.command_ends.specs.declared.status.Refusal.TheVariants.{BeyondLines}
 use Rattle.command_ends.specs.World.{PutsPrefix, CallFailed, FilesKept, IsQuiet, Puts, PutsLine, SeenFiles, SeenOut, line_of_text}
 
 -- how a line names a file that is read
@@ -47,6 +50,10 @@ bad_record_text offset = codes "bad journal at byte " ++ decimal offset
 abbrev pub script_text : ℕ → List ℕ
 script_text worker = codes "script fault at worker " ++ decimal worker
 
+-- the text for a journal of another start: its digest, and that of the input
+abbrev pub other_start_text : Digest → Digest → List ℕ
+other_start_text other start = codes "journal is of another start: " ++ (encode_lower other.bytes ++ (codes ", input: " ++ encode_lower start.bytes))
+
 -- the status is one of these
 abbrev pub IsOneOf : List ℕ → ℕ → Type 0
 IsOneOf statuses status = IsTrue (list_any (λ s. s == status) statuses)
@@ -65,6 +72,7 @@ ending_of (KeepMissing line) = (9, string_bytes line)
 ending_of (TooLong file) = (10, line_of_text (word_for file ++ codes " is too long"))
 ending_of (Script line) = (11, line.bytes)
 ending_of Journal = (12, line_of_text (codes "journal fault"))
+ending_of (OtherStart line) = (13, string_bytes line)
 ending_of (BadJournal line) = (14, string_bytes line)
 ending_of (NotConfirmed line) = (15, string_bytes line)
 ending_of (BeyondLines line) = (16, string_bytes line)
@@ -151,6 +159,12 @@ abbrev pub IsBeyondRefusal : ℕ → ℕ → Refusal → Type 0
 IsBeyondRefusal line lines Memory = Unit {0}
 IsBeyondRefusal line lines (BeyondLines text) = string_bytes text ≡ line_of_text (beyond_text line lines)
 IsBeyondRefusal line lines _ = ⊥
+
+-- the refusal of a journal of another start, or out of memory
+abbrev pub IsOtherStartRefusal : Digest → Digest → Refusal → Type 0
+IsOtherStartRefusal other start Memory = Unit {0}
+IsOtherStartRefusal other start (OtherStart line) = string_bytes line ≡ line_of_text (other_start_text other start)
+IsOtherStartRefusal other start _ = ⊥
 
 -- the line of a refusal of bytes that are no journal, for another cause than memory
 abbrev pub HasJournalLine : JournalFault → List ℕ → Type 0

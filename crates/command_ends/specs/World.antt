@@ -2,6 +2,7 @@
 use Rattle.std.specs.Prelude.{◌≡◌, ◌<◌, ◌≤◌, ◌⊎◌, ℕ, List, [], ◌∷◌, ◌++◌, length, Option, IsSomeAnd, option_map, codes}
 use Rattle.edge_io.specs.Files.{FileContent, Holds, SameFiles}
 use Rattle.edge_io.specs.Sink.{Put, GrewByPrefix, with_piece}
+use Rattle.reduce_step.specs.Limits.{text_limit}
 use Rattle.reduce_journal.specs.History.{History}
 pub use Rattle.run_gated.specs.Seen.{AreQuiet, CallFailed, GateFailed, IsQuiet, Seen, SeenGate, SeenJournal, fault_counts_of, logs_of, seen, seen_gates}
 
@@ -57,9 +58,9 @@ line_of_text text = codes "perses: " ++ (text ++ 10 ∷ [])
 abbrev pub PutsMessage : List ℕ → SeenOut → SeenOut → Type 0
 PutsMessage text old new = PutsLine (line_of_text text) old new
 
--- the most bytes of an input, of each file of a grammar, of the result of a run that is checked, and of its journal
+-- the most bytes of an input, of each file of a grammar, of the result of a run that is checked, and of a journal that is read
 abbrev pub input_limit : ℕ
-input_limit = 262144
+input_limit = text_limit
 
 abbrev pub grammar_limit : ℕ
 grammar_limit = 1048576

@@ -8,12 +8,16 @@ ghost use Rattle.command_ends.specs.World.{input_limit, IsQuiet, seen};
 
 use crate::status::{NamedFile, Refusal};
 use edge_io::{FileFault, Files, WriteFault};
+use reduce_step::TEXT_LIMIT;
 
 /// The longest input, in bytes.
-const INPUT_LIMIT: u64 = 262_144;
+const INPUT_LIMIT: u64 = TEXT_LIMIT as u64;
 
 /// The longest file of a grammar, in bytes.
 pub const GRAMMAR_LIMIT: u64 = 1_048_576;
+
+/// The longest journal that is read, in bytes.
+pub const JOURNAL_LIMIT: u64 = 1_073_741_824;
 
 /// The bytes of a file that has at most `limit` of them.
 pub fn read_file<F: Files>(
@@ -37,7 +41,7 @@ pub fn read_file<F: Files>(
     }
 }
 
-/// The bytes of the input, which has at most 262,144 of them.
+/// The bytes of the input, which has at most `TEXT_LIMIT` of them.
 pub fn read_input<F: Files>(files: &mut F, name: &str) -> Result<Vec<u8>, Refusal>
     ensures bytes { IfOk result (λ bytes. Holds bytes.items (F.content files.old name.now)) }
     ensures limit { IfOk result (λ bytes. length bytes.items ≤ input_limit) }

@@ -13,6 +13,6 @@ mod keep;
 mod status;
 
 pub use end::{Ended, end_refused, end_with};
-pub use file::{GRAMMAR_LIMIT, read_file, read_input, write_file};
+pub use file::{GRAMMAR_LIMIT, JOURNAL_LIMIT, read_file, read_input, write_file};
 pub use keep::held_texts;
 pub use status::{NamedFile, Refusal};

@@ -1,15 +1,16 @@
 //! The refusals of the program, each with its status and its line.
 
-ghost use Rattle.std.specs.Prelude.{◌≡◌};
+ghost use Rattle.std.specs.Prelude.{◌≡◌, IfOk, string_bytes};
+ghost use Rattle.hex.specs.Hex.{encode_lower};
 ghost use Rattle.grammar_load.specs.Message.{grammar_fault_text};
 ghost use Rattle.command_ends.specs.Status.{IsBeyondRefusal, IsGrammarRefusal, IsInputRefusal, IsJournalRefusal, IsKeepRefusal};
-ghost use Rattle.command_ends.specs.Status.{line_of, script_text, status_of};
+ghost use Rattle.command_ends.specs.Status.{IsOtherStartRefusal, line_of, other_start_text, script_text, status_of};
 ghost use Rattle.command_ends.specs.World.{line_of_text};
 
 use arrayvec::ArrayString;
 use faults::Memory;
 use grammar_load::GrammarFault;
-use reduce_journal::JournalFault;
+use reduce_journal::{Digest, JournalFault};
 use reduce_trees_input::InputFault;
 use run_gated::RunFault;
 use std::alloc::Global;
@@ -48,7 +49,7 @@ pub enum Refusal {
     NoParse,
     /// A keep text doesn't occur in the input, which this line says.
     KeepMissing(String),
-    /// The script says no to the start.
+    /// The start's verdict is no.
     NotInteresting,
     /// This file is longer than its limit.
     TooLong(NamedFile),
@@ -56,6 +57,8 @@ pub enum Refusal {
     Script(ArrayString<64>),
     /// The journal can't be written.
     Journal,
+    /// The journal of a run is of another start, which this line says.
+    OtherStart(String),
     /// The journal of a run isn't one, which this line says.
     BadJournal(String),
     /// The files aren't those of a finished run, and this line has the cause.
@@ -75,6 +78,23 @@ fn script_line(worker: u32) -> ArrayString<64>
     line.push_str(digits.format(worker));
     line.push('\n');
     line
+}
+
+/// A digest as 64 lower-case hexadecimal digits.
+fn digits_of(alloc: Global, digest: &Digest) -> Result<String, Memory>
+    ensures { IfOk result (λ digits. string_bytes digits ≡ encode_lower digest.now.bytes) }
+{
+    Ok(hex::encode(alloc, digest.bytes.as_slice())?)
+}
+
+/// The line of a journal that is of another start: its digest, and the input's.
+fn other_start_line(alloc: Global, other: &Digest, start: &Digest) -> Result<String, Memory>
+    ensures { IfOk result (λ line. string_bytes line ≡ line_of_text (other_start_text other.now start.now)) }
+{
+    let other = digits_of(alloc, other)?;
+    let start = digits_of(alloc, start)?;
+    let line = format!(in alloc; "perses: journal is of another start: {other}, input: {start}\n")?;
+    Ok(line)
 }
 
 impl Refusal {
@@ -132,6 +152,16 @@ impl Refusal {
         }
     }
 
+    /// The refusal of a journal that is of another start than the input; `Memory` where memory runs out.
+    pub fn of_other_start(alloc: Global, other: &Digest, start: &Digest) -> Refusal
+        ensures { IsOtherStartRefusal other.now start.now result }
+    {
+        match other_start_line(alloc, other, start) {
+            Ok(line) => Refusal::OtherStart(line),
+            Err(_) => Refusal::Memory,
+        }
+    }
+
     /// The refusal where an option names this line, counted from 1, of an input that has fewer; `Memory`
     /// where memory runs out.
     pub fn of_beyond(alloc: Global, line: u64, lines: u64) -> Refusal
@@ -169,6 +199,7 @@ impl Refusal {
             Refusal::TooLong(NamedFile::Journal) => (10, "perses: journal is too long\n"),
             Refusal::Script(line) => (11, line.as_str()),
             Refusal::Journal => (12, "perses: journal fault\n"),
+            Refusal::OtherStart(line) => (13, line.as_str()),
             Refusal::BadJournal(line) => (14, line.as_str()),
             Refusal::NotConfirmed(line) => (15, line.as_str()),
             Refusal::BeyondLines(line) => (16, line.as_str()),

@@ -33,7 +33,7 @@ module _ (may_say : List ℕ → Verdict → Type 0) (old : World) (out : SeenOu
     reduces : (options : ReduceOptions) → Reduces options may_say old new 1
     reduces options = record {
       history = [];
-      start = record { bytes = sha256 [] };
+      known = record { start = record { bytes = sha256 [] }; kept = [] };
       ends =
           ReduceEnds.memory (record { same = λ name. refl; quiet = refl }) (λ alone. refl)
           (JournalSoFar.untouched (record { no_history = refl; same = refl })) end.line;
@@ -51,6 +51,10 @@ module _ (may_say : List ℕ → Verdict → Type 0) (old : World) (out : SeenOu
         unparsed = λ g is shown. refl;
         keep_missing = λ shown. refl;
         beyond = λ shown. refl;
+        journal_over = λ path is shown over. refl;
+        journal_missing = λ path is shown none. refl;
+        other_start = λ path is shown. refl;
+        bad_journal = λ path is shown bad. refl;
         complete = λ shown files_fine gate_fine journal_fine out_fine. refl;
         first_no = λ first_no. refl;
         first_no_alone = λ alone first_no. refl;
@@ -112,8 +116,8 @@ refused_status out out' status command _ why end = absurd why
 pub reduce_not_usage : (options : ReduceOptions) (may_say : List ℕ → Verdict → Type 0) (old new : World) (status : ℕ) → Reduces options may_say old new status
     → status ≢ 2
 reduce_not_usage options may_say old new status runs two =
-    false≢true (subst (IsOneOf (0 ∷ 1 ∷ 3 ∷ 4 ∷ 5 ∷ 6 ∷ 7 ∷ 8 ∷ 9 ∷ 10 ∷ 11 ∷ 12 ∷ 16 ∷ [])) two
-    (reduce_by_status options runs.start runs.history old new status runs.ends).known)
+    false≢true (subst (IsOneOf (0 ∷ 1 ∷ 3 ∷ 4 ∷ 5 ∷ 6 ∷ 7 ∷ 8 ∷ 9 ∷ 10 ∷ 11 ∷ 12 ∷ 13 ∷ 14 ∷ 16 ∷ [])) two
+    (reduce_by_status options runs.known runs.history old new status runs.ends).one_of)
 
 pub check_not_usage : (options : CheckOptions) (files files' : SeenFiles) (out out' : SeenOut) (status : ℕ)
     → Checks options files files' out out' status → status ≢ 2

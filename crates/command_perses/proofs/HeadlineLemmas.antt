@@ -1,5 +1,5 @@
 -- The headline, from how `reduce` ends.
-use Rattle.std.proofs.Common.{◌≡◌, ◌≢◌, ◌⊎◌, ◌∙◌, inl, inr, ⊎_elim, ℕ, List, [], ◌∷◌, Option, Some, None, IsSome, All, true, refl, sym, ap, subst}
+use Rattle.std.proofs.Common.{◌≡◌, ◌≢◌, ◌⊎◌, ◌∙◌, inl, inr, ⊎_elim, ℕ, List, [], ◌∷◌, Option, Some, None, IsSome, true, refl, sym, ap, subst}
 use Rattle.std.proofs.lemmas.Bool.{and_parts, false≢true}
 use Rattle.std.proofs.lemmas.Option.{same_Some}
 use Rattle.edge_io.specs.Files.{FileContent, Holds}
@@ -7,16 +7,15 @@ use Rattle.script_gate_trait.specs.declared.gate.Verdict.{Verdict}
 use Rattle.script_gate_trait.specs.declared.gate.Verdict.TheVariants.{Yes}
 use Rattle.grammar_tree.specs.Written.{CheckedGrammar}
 use Rattle.keep_guard.specs.Keep.{holds_all}
-use Rattle.verdict_table.specs.declared.record.Record.{Record}
-use Rattle.verdict_table.specs.TableState.{texts_of}
+use Rattle.verdict_table.specs.TableState.{verdict_in}
 use Rattle.reduce_journal.specs.History.{History, IsHistory, records_of}
 use Rattle.reduce_journal.specs.Journal.{IsDigest, IsDigestOf, journal_text}
 use Rattle.reduce_journal.specs.declared.digest.Digest.{Digest}
 use Rattle.reduce_journal.specs.Report.{report_text}
 use Rattle.reduce_journal.specs.declared.counts.Counts.{Counts}
 use Rattle.reduce_trees_input.specs.Parsed.{IsInputOf}
-use Rattle.ordered_commit_moves.proofs.Lent.{none_recalled}
 use Rattle.run_gated.specs.Records.{OnlyNo}
+use Rattle.run_gated.specs.declared.known.Known.{Known}
 use Rattle.run_problem.specs.Committed.{questions_over}
 use Rattle.run_problem.specs.Ends.{AreOf, ReducesFrom}
 use Rattle.run_problem.specs.Laws.{AnswersAreBounded}
@@ -25,13 +24,14 @@ use Rattle.run_problem.proofs.Lent.{none_of}
 use Rattle.command_words.specs.Commands.{Command, ModeOptions, ReduceOptions}
 use Rattle.command_grammar.proofs.Lent.{one_grammar}
 use Rattle.command_ends.specs.Status.{IsOneOf}
-use Rattle.command_ends.specs.World.{NotReached, Puts, SeenFiles, World, logs_of}
+use Rattle.command_ends.specs.World.{NotReached, Puts, SeenFiles, World}
 use Rattle.command_reduce_calls.specs.Journal.{JournalSoFar}
 use Rattle.command_reduce_calls.specs.Stays.{AcceptsStart}
-use Rattle.command_reduce.specs.Reduce.{GatesWereUsed, admits_of, none_kept, problem_in}
+use Rattle.command_reduce.specs.Reduce.{admits_of, problem_in}
 use Rattle.command_reduce.specs.Reduce.{IsHistoryOfInput, IsHistoryWith, ProblemAccepted, ReduceEnds, ReduceMustEnd, Reduces, ReducesTo}
 use Rattle.command_reduce.specs.Reduce.ReduceEnds.{done, memory, script, uninteresting, unput, unwritten}
 use Rattle.command_reduce.specs.ReduceByStatus.{ReduceMeans}
+use Rattle.command_reduce.specs.Resume.{CanResume, IsKeptFrom, IsKnownOf}
 use Rattle.command_reduce.proofs.Lent.{reduce_by_status}
 use Rattle.command_perses.specs.Call.{RunsCommand}
 use Rattle.command_perses.specs.Headline.{AreVisible, HasResult, Headline, IsProblemOf, NoCallFailed, WasWritten, verdicts_of}
@@ -88,25 +88,28 @@ module _ (options : ReduceOptions) (files : SeenFiles) where
 has_written : (old new : SeenFiles) (status : ℕ) → WasWritten old new status → HasResult status
 has_written old new status was = ⊎_elim (λ is. subst HasResult (sym is) refl) (λ at_four. subst HasResult (sym at_four.0) refl) was
 
-module _ (options : ReduceOptions) (start : Digest) (history : History) (old new : World) where
+module _ (options : ReduceOptions) (known : Known) (history : History) (old new : World) where
   -- that of a history; any will do where neither a gate nor the journal was reached
-  problem_of : IsHistoryOfInput options start history old new
-      → (problem : Problem) × (¬ NotReached history old new → IsProblemOf options old.files problem) × IsHistoryWith options start history problem
+  problem_of : IsHistoryOfInput options known history old new
+      → (problem : Problem)
+      × (¬ NotReached history old new → IsProblemOf options old.files problem × IsKeptFrom options.resume old.files known.start known.kept)
+      × IsDigestOf (start_text problem) known.start × AreOf options.jobs (verdict_in known.kept) (admits_of options problem) problem history
   problem_of (inl none) = (
     Problem.of_lines [],
     λ reached. absurd (reached none.0),
-    (none.1, none_of options.jobs none_kept (admits_of options (Problem.of_lines [])) (Problem.of_lines []) history none.0.no_history),
+    none.1,
+    none_of options.jobs (verdict_in known.kept) (admits_of options (Problem.of_lines [])) (Problem.of_lines []) history none.0.no_history,
   )
   problem_of (inr are) =
-      let it : (problem : Problem) × IsProblemOf options old.files problem × IsHistoryWith options start history problem =
-      the_problem options old.files (IsHistoryWith options start history) are in
-      (it.0, λ reached. it.1, it.2)
+      let it : (problem : Problem) × IsProblemOf options old.files problem × IsHistoryWith options old.files known history problem =
+      the_problem options old.files (IsHistoryWith options old.files known history) are in
+      (it.0, λ reached. (it.1, it.2.0.kept), it.2.0.start, it.2.1)
 
   -- The problem reduces to a text, which was written, and its report was put.
   record ResultOf (problem : Problem) (status : ℕ) : Type 0 where
     text : List ℕ
     counts : Counts
-    reduces : ReducesFrom options.jobs none_kept (admits_of options problem) problem history text counts
+    reduces : ReducesFrom options.jobs (verdict_in known.kept) (admits_of options problem) problem history text counts
     written : WasWritten old.files new.files status → Holds text (new.files.shown options.output)
     report : status ≡ 0 → Puts (report_text counts) old.out new.out
 
@@ -114,22 +117,24 @@ module _ (options : ReduceOptions) (start : Digest) (history : History) (old new
   record HasCome (status : ℕ) : Type 0 where
     problem : Problem
     of_files : IsProblemOf options old.files problem
-    are : IsHistoryWith options start history problem
+    is_known : IsKnownOf options old.files (start_text problem) known
+    are : AreOf options.jobs (verdict_in known.kept) (admits_of options problem) problem history
     result : ResultOf problem status
 
-  come : {status : ℕ} (text report : List ℕ) → ReducesTo options old.files start history text report
+  come : {status : ℕ} (text report : List ℕ) → ReducesTo options old.files known history text report
       → (WasWritten old.files new.files status → Holds text (new.files.shown options.output)) → (status ≡ 0 → Puts report old.out new.out) → HasCome status
   come text report reduces written put =
       let P : Problem → Type 0 =
-      λ problem. IsDigestOf (start_text problem) start × (counts : Counts)
-      × ReducesFrom options.jobs none_kept (admits_of options problem) problem history text counts
+      λ problem. IsKnownOf options old.files (start_text problem) known
+      × (counts : Counts) × ReducesFrom options.jobs (verdict_in known.kept) (admits_of options problem) problem history text counts
       × (report ≡ report_text counts)
-      × AreOf options.jobs none_kept (admits_of options problem) problem history in
+      × AreOf options.jobs (verdict_in known.kept) (admits_of options problem) problem history in
       let it : (problem : Problem) × IsProblemOf options old.files problem × P problem = the_problem options old.files P reduces in
       record {
         problem = it.0;
         of_files = it.1;
-        are = (it.2.0, it.2.4);
+        is_known = it.2.0;
+        are = it.2.4;
         result = record {
           text = text;
           counts = it.2.1;
@@ -140,7 +145,7 @@ module _ (options : ReduceOptions) (start : Digest) (history : History) (old new
       }
 
   -- by how it ended
-  result_in : {status : ℕ} → ReduceEnds options start history old new status → HasCome status ⊎ (HasResult status → ⊥)
+  result_in : {status : ℕ} → ReduceEnds options known history old new status → HasCome status ⊎ (HasResult status → ⊥)
   result_in (done report writes put) = inl (come writes.reduced.text report writes.reduced.reduces (λ was. writes.reduced.written) (λ is. put))
   result_in (unwritten failed text report reduces others gates_quiet kept put) =
       inl (come text report reduces (λ was. ⊎_elim (λ is. absurd (cc is)) (λ at_four. absurd (at_four.1 failed)) was) (λ is. absurd (cc is)))
@@ -148,17 +153,18 @@ module _ (options : ReduceOptions) (start : Digest) (history : History) (old new
       inl (come writes.reduced.text report writes.reduced.reduces (λ was. writes.reduced.written) (λ is. absurd (cc is)))
   result_in _ = inr (λ has. false≢true has)
 
-  so_far : {status : ℕ} → ReduceEnds options start history old new status → IsOneOf (1 ∷ 11 ∷ []) status
-      → JournalSoFar options.journal start history old.journal new.journal
+  so_far : {status : ℕ} → ReduceEnds options known history old new status → IsOneOf (1 ∷ 11 ∷ []) status
+      → JournalSoFar options.journal known.start history old.journal new.journal
   so_far (memory files gates_quiet kept put) is = kept
   so_far (script worker one_of failed read files kept put) is =
       ⊎_elim (λ whole. JournalSoFar.whole whole) (λ unopened. JournalSoFar.untouched unopened.untouched) kept
   so_far _ is = absurd (false≢true is)
 
   -- the run succeeds
-  done_at : {status : ℕ} → ReduceEnds options start history old new status → ReduceMustEnd options (records_of history) old new status
+  done_at : {status : ℕ} → ReduceEnds options known history old new status → ReduceMustEnd options (records_of history) old new status
       → (status ≡ 8 → OnlyNo (records_of history))
-      → IsShownProblem (problem_in options) old.files (AcceptsStart options) → NoCallFailed options.jobs old new
+      → IsShownProblem (problem_in options) old.files (λ text. AcceptsStart options text × CanResume options.resume old.files text)
+      → NoCallFailed options.jobs old new
       → (status ≡ 0) ⊎ ((status ≡ 8) × OnlyNo (records_of history)) ⊎ (status ≡ 1)
   done_at (done report writes put) must refused shown quiet = inl refl
   done_at (memory files gates_quiet kept put) must refused shown quiet = inr (inr refl)
@@ -172,34 +178,36 @@ module _ (one_history : BytesHaveOneHistory) (bounded : AnswersAreBounded) (may_
   abbrev history : History
   history = runs.history
 
-  abbrev start : Digest
-  start = runs.start
+  abbrev known : Known
+  known = runs.known
 
-  means : ReduceMeans options start history old new status
-  means = reduce_by_status options start history old new status runs.ends
+  means : ReduceMeans options known history old new status
+  means = reduce_by_status options known history old new status runs.ends
 
-  headline_at : (problem : Problem) → (¬ NotReached history old new → IsProblemOf options old.files problem) → IsDigestOf (start_text problem) start
-      → AreOf options.jobs none_kept (admits_of options problem) problem history → (HasResult status → ResultOf options start history old new problem status)
+  headline_at : (problem : Problem)
+      → (¬ NotReached history old new → IsProblemOf options old.files problem × IsKeptFrom options.resume old.files known.start known.kept)
+      → IsDigestOf (start_text problem) known.start
+      → AreOf options.jobs (verdict_in known.kept) (admits_of options problem) problem history
+      → (HasResult status → ResultOf options known history old new problem status)
       → Headline may_say options old new status
   headline_at problem of_files of_start are result = record {
     history = history;
     problem = problem;
-    of_files = of_files;
-    start = start;
+    of_files = λ reached. (of_files reached).0;
+    start = known.start;
+    kept = known.kept;
     of_start = of_start;
+    of_resumed = λ reached. (of_files reached).1;
     journal = means.whole;
-    journal_so_far = so_far options start history old new runs.ends;
+    journal_so_far = so_far options known history old new runs.ends;
     journal_broken = λ is. (means.journal is).1;
     not_reached = means.early;
     readable = are.readable;
-    only = λ digest other is_digest of_other same. one_history digest start other history is_digest of_start.0 of_other are.readable same;
-    said =
-        subst (λ (rs : List Record). All (λ (r : Record). may_say r.text r.verdict) rs) (none_recalled history runs.sound.resumed) runs.sound.said;
-    unresumed = runs.sound.resumed;
+    only = λ digest other is_digest of_other same. one_history digest known.start other history is_digest of_start.0 of_other are.readable same;
+    resumed = runs.sound.resumed;
+    said = runs.sound.said;
     distinct = runs.sound.distinct;
-    asked =
-        subst (λ (rs : List Record). GatesWereUsed options (texts_of rs) (logs_of old.gates) (logs_of new.gates) old.journal new.journal)
-        (none_recalled history runs.sound.resumed) runs.sound.used;
+    asked = runs.sound.used;
     other_gates = runs.others;
     candidates = are.candidates;
     short = are.short;
@@ -229,18 +237,18 @@ module _ (one_history : BytesHaveOneHistory) (bounded : AnswersAreBounded) (may_
     report = λ is.
         let it = result (subst HasResult (sym is) refl) in
         subst (λ (counts : Counts). Puts (report_text counts) old.out new.out) it.reduces.is_counts (it.report is);
-    succeeds = done_at options start history old new runs.ends runs.must_end means.not_interesting;
+    succeeds = done_at options known history old new runs.ends runs.must_end means.not_interesting;
   }
 
   of_any : (HasResult status → ⊥) → Headline may_say options old new status
   of_any none =
-      let any = problem_of options start history old new runs.of_input in
-      headline_at any.0 any.1 any.2.0 any.2.1 (λ has. absurd (none has))
+      let any = problem_of options known history old new runs.of_input in
+      headline_at any.0 any.1 any.2 any.3 (λ has. absurd (none has))
 
   headline : Headline may_say options old new status
   headline =
-      ⊎_elim (λ it. headline_at it.problem (λ reached. it.of_files) it.are.0 it.are.1 (λ has. it.result)) of_any
-      (result_in options start history old new runs.ends)
+      ⊎_elim (λ it. headline_at it.problem (λ reached. (it.of_files, it.is_known.kept)) it.is_known.start it.are (λ has. it.result)) of_any
+      (result_in options known history old new runs.ends)
 
 module _ (one_history : BytesHaveOneHistory) (bounded : AnswersAreBounded) (may_say : List ℕ → Verdict → Type 0) (old new : World) (status : ℕ) where
   -- of a command line of `reduce`

@@ -7,7 +7,8 @@ use Rattle.script_gate_trait.specs.declared.gate.Verdict.{Verdict}
 use Rattle.script_gate_trait.specs.declared.gate.Verdict.TheVariants.{Yes}
 use Rattle.keep_guard.specs.Keep.{holds_all}
 use Rattle.verdict_table.specs.TableState.{texts_of, verdict_in}
-use Rattle.reduce_journal.specs.History.{History, IsHistory, records_of}
+use Rattle.verdict_table.specs.declared.record.Record.{Record}
+use Rattle.reduce_journal.specs.History.{History, IsHistory, asked_records_of, records_of}
 use Rattle.reduce_journal.specs.Journal.{IsDigest, IsDigestOf, journal_text}
 use Rattle.reduce_journal.specs.declared.digest.Digest.{Digest}
 use Rattle.reduce_journal.specs.Report.{report_text}
@@ -24,7 +25,8 @@ use Rattle.command_ends.specs.Status.{IsOneOf}
 use Rattle.command_ends.specs.World.{AnyGateFailed, CallFailed, NotReached, Puts, SeenFiles, World, logs_of}
 use Rattle.command_reduce_calls.specs.Journal.{JournalBroken, JournalSoFar, JournalWhole}
 use Rattle.command_reduce_calls.specs.Stays.{AcceptsStart}
-use Rattle.command_reduce.specs.Reduce.{GatesWereUsed, admits_of, none_kept, numbers_stay, problem_in}
+use Rattle.command_reduce.specs.Reduce.{GatesWereUsed, admits_of, numbers_stay, problem_in}
+use Rattle.command_reduce.specs.Resume.{CanResume, IsKeptFrom}
 use Rattle.command_problem.specs.Problem.{IsShownProblem, ProblemRead}
 
 -- the content is visible of the files that are read
@@ -68,14 +70,16 @@ pub record NoCallFailed (jobs : ℕ) (old new : World) : Type 0 where
 -- What a run of `reduce` with these options has done, with this status, by however many workers and however these interleaved.
 -- What is said of a content holds where the object shows it.
 pub record Headline (may_say : List ℕ → Verdict → Type 0) (options : ReduceOptions) (old new : World) (status : ℕ) : Type 0 where
-  -- the texts that have a verdict, with it, and which of these the reduction used, in their order
+  -- the texts that have a verdict, asked or recalled, with it, and which of these the reduction used, in their order
   pub history : History
   -- what was reduced: where a gate or the journal was reached, the files' own problem as they were, by the grammar as it is written in its file, or its two
   pub problem : Problem
   pub of_files : ¬ NotReached history old new → IsProblemOf options old.files problem
-  -- the digest of its start
+  -- the digest of its start; and the verdicts that were kept: those of the first record of each text in the journal that `--resume` names, and none without it
   pub start : Digest
+  pub kept : List Record
   pub of_start : IsDigestOf (start_text problem) start
+  pub of_resumed : ¬ NotReached history old new → IsKeptFrom options.resume old.files start kept
   -- ---- the result
   -- the output file holds what the recursive reduction gives over the verdicts
   pub written : WasWritten old.files new.files status → Holds (result_text options problem history) (new.files.shown options.output)
@@ -94,15 +98,15 @@ pub record Headline (may_say : List ℕ → Verdict → Type 0) (options : Reduc
   -- no single edit of it has a yes: each that may be asked has its recorded no
   pub minimal : HasResult status → EndsMinimally (admits_of options problem) problem (verdicts_of history)
   -- ---- the verdicts
-  -- each is one that a gate may say of its text, and only `ask` gives it
-  pub said : All (λ r. may_say r.text r.verdict) (records_of history)
-  -- none is kept from an earlier run, and each record says so
-  pub unresumed : AllGoWith none_kept history
+  -- a record is kept exactly where its text has a kept verdict, and then it has that one
+  pub resumed : AllGoWith (verdict_in kept) history
+  -- each other is one that a gate may say of its text, and only `ask` gives it
+  pub said : All (λ r. may_say r.text r.verdict) (asked_records_of history)
   -- no text has two
   pub distinct : IsDistinct bytes_eq (texts_of (records_of history))
-  -- the workers' gates were opened for the script and the input, and asked as often as there are records; or not all were opened, and there is no record.
-  -- The others are as handed in
-  pub asked : GatesWereUsed options (texts_of (records_of history)) (logs_of old.gates) (logs_of new.gates) old.journal new.journal
+  -- the workers' gates were opened for the script and the input, and asked as often as there are records that aren't kept; or not all were opened, and there
+  -- is no such record. The others are as handed in
+  pub asked : GatesWereUsed options (texts_of (asked_records_of history)) (logs_of old.gates) (logs_of new.gates) old.journal new.journal
   pub other_gates : drop options.jobs new.gates ≡ drop options.jobs old.gates
   -- each text is of some of the start's lines or tokens, those that must stay among them, in the language of the grammar as it is written, and has each
   -- keep text
@@ -117,9 +121,9 @@ pub record Headline (may_say : List ℕ → Verdict → Type 0) (options : Reduc
   pub journal : IsOneOf (0 ∷ 4 ∷ 8 ∷ []) status → JournalWhole options.journal start history old.journal new.journal
   -- at 1 and 11 too; or it is as handed in or was only opened, and there is no history
   pub journal_so_far : IsOneOf (1 ∷ 11 ∷ []) status → JournalSoFar options.journal start history old.journal new.journal
-  -- at 12 it wasn't opened, or broke off in its head, and there is no history; or in an event: by one worker in the last record, or in a commit after
-  -- all of the history
-  pub journal_broken : status ≡ 12 → JournalBroken options.jobs options.journal start none_kept history old.journal new.journal
+  -- at 12 it wasn't opened, or broke off in its head, and there is no history; or in an event: by one worker in the last record, or in a commit or a kept
+  -- record that would come next
+  pub journal_broken : status ≡ 12 → JournalBroken options.jobs options.journal start (verdict_in kept) history old.journal new.journal
   -- at the others it and the gates are as handed in, and there is no history
   pub not_reached : ¬ IsOneOf (0 ∷ 1 ∷ 4 ∷ 8 ∷ 11 ∷ 12 ∷ []) status → NotReached history old new
   -- the start's digest and the history can be read back of the journal's bytes, and no others have them
@@ -131,13 +135,15 @@ pub record Headline (may_say : List ℕ → Verdict → Type 0) (options : Reduc
   pub bounded : answer_count history ≤ length (questions_over (admits_of options problem) problem history)
   -- where there is a result, they are all of them
   pub ended : HasResult status → committed_texts history ≡ questions_over (admits_of options problem) problem history
-  -- by one worker the history is a beginning of what one thread does that asks these texts; where there is a result, all of it
-  pub alone : options.jobs ≡ 1 → IsPrefix history (thread_over (admits_of options problem) problem none_kept history)
-  pub whole : HasResult status → options.jobs ≡ 1 → history ≡ thread_over (admits_of options problem) problem none_kept history
+  -- by one worker the history is a beginning of what one thread does that asks these texts and has these kept verdicts; where there is a result, all of it
+  pub alone : options.jobs ≡ 1 → IsPrefix history (thread_over (admits_of options problem) problem (verdict_in kept) history)
+  pub whole : HasResult status → options.jobs ≡ 1 → history ≡ thread_over (admits_of options problem) problem (verdict_in kept) history
   -- at 0 the report was put on `out`, and nothing else
   pub report : status ≡ 0 → Puts (report_text (counts_of (admits_of options problem) problem (records_of history))) old.out new.out
   -- ---- the run succeeds
-  -- where the input is one of its mode, with each keep text and the lines that are named, and no call failed;
-  -- unless its only verdict is no (8), or memory ran out (1)
-  pub succeeds : IsShownProblem (problem_in options) old.files (AcceptsStart options) → NoCallFailed options.jobs old new
+  -- where the input is one of its mode, with each keep text and the lines that are named, a journal that is named can be resumed, and no call failed; unless
+  -- its only verdict is no (8), or memory ran out (1)
+  pub succeeds : IsShownProblem (problem_in options) old.files
+      (λ text. AcceptsStart options text × CanResume options.resume old.files text)
+      → NoCallFailed options.jobs old new
       → (status ≡ 0) ⊎ ((status ≡ 8) × OnlyNo (records_of history)) ⊎ (status ≡ 1)

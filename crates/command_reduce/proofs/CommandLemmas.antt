@@ -1,24 +1,30 @@
 -- How the steps of `reduce` end it.
-use Rattle.std.proofs.Common.{◌≡◌, inl, inr, ℕ, List, [], drop, refl, sym, ap, ◌∙◌, subst, ⊎_elim, Result, Ok, Err, MatchResult}
+use Rattle.std.proofs.Common.{◌≡◌, inl, inr, ℕ, List, [], drop, Option, Some, None, IsSome, refl, sym, ap, ◌∙◌, subst, ⊎_elim, Result, Ok, Err, MatchResult}
+use Rattle.std.proofs.Common.{string_bytes, unwrap_or}
 use Rattle.std.specs.Global.{Vec}
 use Rattle.faults.specs.Count.{Rose}
 use Rattle.reduce_core.specs.Reduction.{Admits}
 use Rattle.line_guard.specs.MustStay.{Stays, stays_admit}
 use Rattle.command_reduce_calls.specs.Stays.{AcceptsStart}
-use Rattle.edge_io.specs.Files.{SameFiles}
+use Rattle.edge_io.specs.Files.{IsLonger, SameFiles}
 use Rattle.script_gate_trait.specs.declared.gate.Verdict.{Verdict}
 use Rattle.reduce_trees_input.specs.Laws.{InputFaultOnce, InputsAreInLanguage}
+use Rattle.command_ends.specs.declared.status.NamedFile.{NamedFile}
+use Rattle.command_ends.specs.declared.status.NamedFile.TheVariants as named
 use Rattle.command_ends.specs.declared.status.Refusal.{Refusal}
 use Rattle.command_ends.specs.declared.status.Refusal.TheVariants.{Memory, CannotRead, CannotWrite, Grammar, KeepMissing, BeyondLines, NoParse, TooLong, Uncut}
+use Rattle.command_ends.specs.declared.status.Refusal.TheVariants.{BadJournal, OtherStart}
 use Rattle.run_problem.specs.Problem.{Problem, start_text}
 use Rattle.run_problem.specs.Ends.{AreOf, IsRefused, IsRunOf, IsUnfinished, ProblemEnds, ReducesFrom, RunFails}
 use Rattle.run_problem.specs.Read.{IsReadAs, start_read}
 use Rattle.run_problem.specs.declared.problem.ReadProblem.{ReadProblem}
 use Rattle.reduce_journal.specs.Journal.{IsDigestOf}
 use Rattle.reduce_journal.specs.declared.digest.Digest.{Digest}
+use Rattle.reduce_journal.specs.declared.read.JournalFault.{JournalFault}
+use Rattle.reduce_journal.specs.declared.read.JournalFault.TheVariants as journal_fault
+use Rattle.run_gated.specs.declared.known.Known.{Known}
 use Rattle.reduce_journal.specs.History.{History}
 use Rattle.verdict_table.specs.TableState.{verdict_in}
-use Rattle.verdict_table.specs.declared.record.Record.{Record}
 use Rattle.reduce_journal.specs.Report.{report_text}
 use Rattle.reduce_journal.specs.declared.counts.Counts.{Counts}
 use Rattle.run_gated.specs.declared.ran.Reduced.{Reduced}
@@ -28,30 +34,33 @@ use Rattle.run_gated.specs.Run.{Run}
 use Rattle.script_gate_trait.specs.declared.gate.GateFault.{GateFault}
 use Rattle.script_gate_trait.specs.declared.gate.GateFault.TheVariants.{Failed as GateFailed, Memory as GateMemory}
 use Rattle.command_reduce.specs.Reduce.{GateUnopened, IsHistoryWith, ProblemAccepted, RecordsAreSound, ReduceEnds, Reduces, ReducesTo, problem_in}
-use Rattle.command_reduce.specs.Reduce.{admits_of, none_kept}
+use Rattle.command_reduce.specs.Reduce.{IsFileReached, IsResumeReached, admits_of, path_of_file}
+use Rattle.command_reduce.specs.Resume.{IsKnownOf}
+use Rattle.command_reduce.specs.inner.Resume.{IsFaultOf, ResumeFails, ResumeRefused}
 use Rattle.command_reduce.specs.inner.Reduce.{Inside, ReduceFails, ReduceReports, ReduceSteps, beside}
 use Rattle.command_reduce_calls.specs.Journal.{JournalSoFar, JournalWhole}
 use Rattle.command_reduce.specs.inner.Read.{AcceptFails, StaysRefused, admits_read, stays_read}
 use Rattle.command_reduce.specs.inner.Run.{IsSoundStarted, JournalAfter, StartLeaves, Unopened}
 use Rattle.command_reduce_calls.specs.Calls.{WriteEnds}
 use Rattle.command_reduce.specs.Reduce.ReduceEnds.{done, memory, unread, unwritten, faulty, no_token, unparsed}
-use Rattle.command_reduce.specs.Reduce.ReduceEnds.{uninteresting, unput, keep_missing, beyond, too_long, script, journal}
+use Rattle.command_reduce.specs.Reduce.ReduceEnds.{uninteresting, unput, keep_missing, beyond, too_long, other_start, no_head, bad_event, script, journal}
 use Rattle.run_gated.specs.declared.fault.RunFault.{RunFault}
 use Rattle.run_gated.specs.declared.fault.RunFault.TheVariants as run_fault
-use Rattle.command_ends.specs.Status.{EndsRefused, EndsWithAnswer, ending_of, ending_of_run}
+use Rattle.command_ends.specs.Status.{EndsRefused, EndsWithAnswer, HasJournalLine, ending_of, ending_of_run}
 use Rattle.command_words.specs.Commands.{ReduceOptions}
 use Rattle.command_ends.specs.World.{AreQuiet, FilesKept, fault_counts_of, logs_of, IsQuiet, PutsLine, NotReached, SeenFiles, SeenGate, SeenOut}
+use Rattle.command_ends.specs.World.{WasRead, journal_limit}
 use Rattle.command_reduce.proofs.MustEndLemmas.{must_end}
 use Rattle.command_reduce.proofs.ProblemLemmas.{accepted_as, start_as, stays_as}
 use Rattle.command_reduce.proofs.UsedLemmas.{none_sound}
 use Rattle.command_reduce.proofs.LentLemmas.{AreFirst, all_quiet, one_failed, one_unopened, sound_among}
-use Rattle.command_problem.specs.Problem.{ProblemRead}
+use Rattle.command_problem.specs.Problem.{IsReached, ProblemRead, limit_of, path_in}
 use Rattle.command_problem.specs.Read.{ProblemFails}
 use Rattle.command_problem.proofs.Lent.{any_problem, problem_map}
 
 -- neither a gate nor the journal was reached
-module _ (options : ReduceOptions) (may_say : List ℕ → Verdict → Type 0) (start : Digest) (history : History) (old new : Inside)
-    (empty : IsDigestOf [] start)
+module _ (options : ReduceOptions) (may_say : List ℕ → Verdict → Type 0) (known : Known) (history : History) (old new : Inside)
+    (empty : IsDigestOf [] known.start)
     (none : history ≡ [])
     (same_gates : new.gates ≡ old.gates) (same_journal : new.journal ≡ old.journal) (same : SameFiles old.files.shown new.files.shown) where
   untouched : (out out' : SeenOut) → NotReached history (beside old out) (beside new out')
@@ -60,13 +69,30 @@ module _ (options : ReduceOptions) (may_say : List ℕ → Verdict → Type 0) (
   gates_quiet : AreQuiet old.gates new.gates
   gates_quiet = ap fault_counts_of same_gates
 
-  so_far : JournalSoFar options.journal start history old.journal new.journal
+  so_far : JournalSoFar options.journal known.start history old.journal new.journal
   so_far = JournalSoFar.untouched (record { no_history = none; same = same_journal })
 
-  problem_at : (refusal : Refusal) → ProblemFails (problem_in options) old.files new.files refusal → ReduceFails options start history old new refusal
+  -- the files of the problem are read as files of the run
+  file_reached : (file : NamedFile) → IsReached options.mode file old.files → IsFileReached options file old.files
+  file_reached named.Input is = is
+  file_reached named.Grammar is = is
+  file_reached named.Lexer is = is
+  file_reached named.Result is = is
+  file_reached named.Journal is = absurd is
+
+  file_longer : (file : NamedFile) → IsReached options.mode file old.files → IsLonger (limit_of file) (old.files.shown (path_in (problem_in options) file))
+      → IsLonger (limit_of file) (old.files.shown (path_of_file options file))
+  file_longer named.Input is longer = longer
+  file_longer named.Grammar is longer = longer
+  file_longer named.Lexer is longer = longer
+  file_longer named.Result is longer = longer
+  file_longer named.Journal is longer = absurd is
+
+  problem_at : (refusal : Refusal) → ProblemFails (problem_in options) old.files new.files refusal → ReduceFails options known history old new refusal
   problem_at Memory why = λ out out' put. memory (record { same = same; quiet = why }) (λ alone. gates_quiet) so_far put
-  problem_at (CannotRead file) why = λ out out' put. unread file why.0 why.1 same (untouched out out') put
-  problem_at (TooLong file) why = λ out out' put. too_long file why.0 why.1 (record { same = same; quiet = why.2 }) (untouched out out') put
+  problem_at (CannotRead file) why = λ out out' put. unread file (file_reached file why.0) why.1 same (untouched out out') put
+  problem_at (TooLong file) why = λ out out' put.
+      too_long file (file_reached file why.0) (file_longer file why.0 why.1) (record { same = same; quiet = why.2 }) (untouched out out') put
   problem_at (Grammar line) why = λ out out' put.
       faulty why.0 why.2.0 why.1 why.2.1 (record { same = same; quiet = why.2.3 }) (untouched out out') (subst (λ l. PutsLine l out out') why.2.2 put)
   problem_at (Uncut line) why = λ out out' put.
@@ -78,36 +104,79 @@ module _ (options : ReduceOptions) (may_say : List ℕ → Verdict → Type 0) (
     kept : FilesKept old.files new.files
     kept = record { same = same; quiet = quiet }
 
-    stays_at : (refusal : Refusal) → StaysRefused options old.files refusal → ReduceFails options start history old new refusal
+    stays_at : (refusal : Refusal) → StaysRefused options old.files refusal → ReduceFails options known history old new refusal
     stays_at Memory why = λ out out' put. memory kept (λ alone. gates_quiet) so_far put
     stays_at (KeepMissing line) why = λ out out' put. keep_missing why.0 why.1 kept (untouched out out') (subst (λ l. PutsLine l out out') why.2 put)
     stays_at (BeyondLines line) why =
         λ out out' put. beyond why.0 why.1 why.2 kept (untouched out out') (subst (λ l. PutsLine l out out') why.3 put)
     stays_at _ why = absurd why
 
-  -- there is no problem, or it wasn't accepted
+  -- a problem was accepted, but the journal that is to be resumed isn't one of it
+  module _ (path : List ℕ) (is_named : options.resume ≡ Some path) (start : Digest)
+      (accepted : ProblemAccepted options old.files (λ problem. IsDigestOf (start_text problem) start)) where
+    reached : IsResumeReached options old.files
+    reached = (
+      subst (λ (resume : Option (List ℕ)). IsSome resume) (sym is_named) refl,
+      problem_map (problem_in options) old.files (λ problem. AcceptsStart options (start_text problem) × IsDigestOf (start_text problem) start)
+          (λ problem. AcceptsStart options (start_text problem) × Unit {0}) (λ problem is. (is.0, tt)) accepted,
+    )
+
+    bad_at : (text : List ℕ) (fault : JournalFault) → WasRead journal_limit (old.files.shown path) (IsFaultOf fault) → HasJournalLine fault text
+        → IsQuiet old.files new.files → (out out' : SeenOut) → PutsLine text out out' → ReduceEnds options known history (beside old out) (beside new out') 14
+    bad_at text journal_fault.BadHead read is quiet = λ out out' put.
+        no_head path is_named reached.1 (record { bytes = read.bytes; read = read.read; within = read.within; holds = read.holds })
+        (record { same = same; quiet = quiet }) (untouched out out') (subst (λ l. PutsLine l out out') is put)
+    bad_at text (journal_fault.BadRecord offset) read is quiet = λ out out' put.
+        bad_event path offset is_named reached.1 (record { bytes = read.bytes; read = read.read; within = read.within; holds = read.holds })
+        (record { same = same; quiet = quiet }) (untouched out out') (subst (λ l. PutsLine l out out') is put)
+    bad_at text journal_fault.Memory read is quiet = absurd is
+
+    resume_at : (refusal : Refusal) → ResumeFails path start old.files new.files refusal → ReduceFails options known history old new refusal
+    resume_at Memory why = λ out out' put. memory (record { same = same; quiet = why }) (λ alone. gates_quiet) so_far put
+    resume_at (CannotRead file) why = λ out out' put.
+        unread file (subst (λ f. IsFileReached options f old.files) (sym why.0) reached) why.1 same (untouched out out') put
+    resume_at (TooLong file) why = λ out out' put.
+        too_long file (subst (λ f. IsFileReached options f old.files) (sym why.0) reached)
+        (subst (λ f. IsLonger (limit_of f) (old.files.shown (path_of_file options f))) (sym why.0)
+        (subst (λ resume. IsLonger journal_limit (old.files.shown (unwrap_or resume []))) (sym is_named) why.1))
+        (record { same = same; quiet = why.2 }) (untouched out out') put
+    resume_at (OtherStart line) why = λ out out' put.
+        other_start path why.0 start is_named accepted why.1 (record { same = same; quiet = why.3 }) (untouched out out')
+        (subst (λ l. PutsLine l out out') why.2 put)
+    resume_at (BadJournal line) why = bad_at (string_bytes line) why.0 why.1 why.2 why.3
+    resume_at _ why = absurd why
+
+  resume_by : (resume : Option (List ℕ)) → options.resume ≡ resume → (refusal : Refusal) (start : Digest)
+      → ProblemAccepted options old.files (λ problem. IsDigestOf (start_text problem) start) → ResumeRefused resume start old.files new.files refusal
+      → ReduceFails options known history old new refusal
+  resume_by None is refusal start accepted why = absurd why
+  resume_by (Some path) is refusal start accepted why = resume_at path is start accepted refusal why
+
+  -- there is no problem, or it wasn't accepted, or it can't go on from the journal
   pub stops_accept : (refusal : Refusal) → AcceptFails options old.files new.files refusal → ReduceSteps options may_say history old new (Err refusal)
   stops_accept refusal why = record {
-    start = start;
+    known = known;
     sound =
-        none_sound options may_say [] history (logs_of old.gates) (logs_of new.gates) old.journal new.journal none (ap logs_of same_gates)
+        none_sound options may_say known.kept history (logs_of old.gates) (logs_of new.gates) old.journal new.journal none (ap logs_of same_gates)
         same_journal;
     of_input = λ out out'. inl (untouched out out', empty);
     others = ap (drop options.jobs) same_gates;
-    ends = ⊎_elim (λ problem. problem_at refusal problem) (λ stays. stays_at stays.0 refusal stays.1) why;
+    ends =
+        ⊎_elim (λ problem. problem_at refusal problem)
+        (λ later. ⊎_elim (λ stays. stays_at stays.0 refusal stays.1) (λ resume. resume_by options.resume refl refusal resume.0 resume.1 resume.2) later) why;
   }
 
 -- a problem was accepted, and its run ended, which used these gates
-module _ (options : ReduceOptions) (may_say : List ℕ → Verdict → Type 0) (start : Digest) (history : History) (old new : Inside) (part part' : List SeenGate)
+module _ (options : ReduceOptions) (may_say : List ℕ → Verdict → Type 0) (known : Known) (history : History) (old new : Inside) (part part' : List SeenGate)
     (first : AreFirst options part part' old.gates new.gates)
-    (sound : RecordsAreSound options may_say [] history (logs_of part) (logs_of part') old.journal new.journal)
-    (are : ProblemAccepted options old.files (IsHistoryWith options start history)) where
+    (sound : RecordsAreSound options may_say known.kept history (logs_of part) (logs_of part') old.journal new.journal)
+    (are : ProblemAccepted options old.files (IsHistoryWith options old.files known history)) where
   -- the run, by what it answered
   abbrev run_to : Result Reduced RunFault → Run
   run_to outcome = record {
     workers = options.jobs;
-    start = start;
-    kept = [];
+    start = known.start;
+    kept = known.kept;
     before = record { gates = part; journal = old.journal };
     after = record { gates = part'; journal = new.journal };
     history = history;
@@ -124,29 +193,32 @@ module _ (options : ReduceOptions) (may_say : List ℕ → Verdict → Type 0) (
       (λ problem is. (is.0, then problem is.1)) read
 
   abbrev Fails : RunFault → Problem → Type 0
-  Fails fault problem = IsDigestOf (start_text problem) start × RunFails (admits_of options problem) problem (run_to (Err fault)) fault
+  Fails fault problem = IsKnownOf options old.files (start_text problem) known × RunFails (admits_of options problem) problem (run_to (Err fault)) fault
 
   -- it ends with this status and this line, whatever becomes of the line
   abbrev EndsBy : ℕ × List ℕ → Type 0
-  EndsBy ending = (out out' : SeenOut) → PutsLine ending.1 out out' → ReduceEnds options start history (beside old out) (beside new out') ending.0
+  EndsBy ending = (out out' : SeenOut) → PutsLine ending.1 out out' → ReduceEnds options known history (beside old out) (beside new out') ending.0
 
   -- the history is one of the problem, which reduces to this
   abbrev Comes : Reduced → Problem → Type 0
   Comes reduced problem =
-      IsHistoryWith options start history problem
-      × ReducesFrom options.jobs none_kept (admits_of options problem) problem history reduced.text.items reduced.counts
+      IsHistoryWith options old.files known history problem
+      × ReducesFrom options.jobs (verdict_in known.kept) (admits_of options problem) problem history reduced.text.items reduced.counts
 
   abbrev Waits : Problem → Type 0
-  Waits problem = IsDigestOf (start_text problem) start × (options.jobs ≡ 1 → IsUnfinished none_kept (admits_of options problem) problem history)
+  Waits problem =
+      IsKnownOf options old.files (start_text problem) known
+      × (options.jobs ≡ 1 → IsUnfinished (verdict_in known.kept) (admits_of options problem) problem history)
 
   -- without a reduction
   fault_at : (fault : RunFault) → FilesKept old.files new.files → ProblemAccepted options old.files (Fails fault)
-      → JournalAfter {A = Reduced} options.jobs options.journal start none_kept history old.journal new.journal (Err fault) → EndsBy (ending_of_run fault)
+      → JournalAfter {A = Reduced} options.jobs options.journal known.start (verdict_in known.kept) history old.journal new.journal (Err fault)
+      → EndsBy (ending_of_run fault)
   fault_at run_fault.Memory kept why ends = λ out out' put. memory kept (λ alone. all_quiet first ((some (Fails run_fault.Memory) why).1.1.1.1 alone)) ends put
   fault_at run_fault.NotInteresting kept why ends = λ out out' put.
       uninteresting
-      (but (Fails run_fault.NotInteresting)
-      (λ problem. IsDigestOf (start_text problem) start × IsRefused options.jobs none_kept (admits_of options problem) problem history)
+      (but (Fails run_fault.NotInteresting) (λ problem. IsKnownOf options old.files (start_text problem) known
+      × IsRefused options.jobs (verdict_in known.kept) (admits_of options problem) problem history)
       (λ problem is. (is.0, is.1.0)) why) kept
       (all_quiet first (some (Fails run_fault.NotInteresting) why).1.1.1.1.gates) ends put
   fault_at (run_fault.Script worker) kept why ends = λ out out' put.
@@ -166,16 +238,16 @@ module _ (options : ReduceOptions) (may_say : List ℕ → Verdict → Type 0) (
   unopened_at worker GateMemory kept why un =
       λ out out' put. memory kept (λ alone. all_quiet first ((some (Fails run_fault.Memory) why).1.1.1.1 alone)) (JournalSoFar.untouched un.untouched) put
 
-  all_sound : RecordsAreSound options may_say [] history (logs_of old.gates) (logs_of new.gates) old.journal new.journal
-  all_sound = sound_among first may_say [] history old.journal new.journal sound
+  all_sound : RecordsAreSound options may_say known.kept history (logs_of old.gates) (logs_of new.gates) old.journal new.journal
+  all_sound = sound_among first may_say known.kept history old.journal new.journal sound
 
   stops_run : (fault : RunFault) (refusal : Refusal) → ending_of refusal ≡ ending_of_run fault → FilesKept old.files new.files
       → ProblemAccepted options old.files (Fails fault)
-      → JournalAfter {A = Reduced} options.jobs options.journal start none_kept history old.journal new.journal (Err fault)
+      → JournalAfter {A = Reduced} options.jobs options.journal known.start (verdict_in known.kept) history old.journal new.journal (Err fault)
       → ReduceSteps options may_say history old new (Err refusal)
   stops_run fault refusal same kept why ends =
       record {
-        start = start;
+        known = known;
         sound = all_sound;
         of_input = λ out out'. inr are;
         others = first.others;
@@ -184,20 +256,20 @@ module _ (options : ReduceOptions) (may_say : List ℕ → Verdict → Type 0) (
 
   -- with one, whose result was written or wasn't
   module _ (read : SeenFiles) (reduced : Reduced) (same : SameFiles old.files.shown read.shown) (quiet : IsQuiet old.files read)
-      (gates_quiet : AreQuiet old.gates new.gates) (whole : JournalWhole options.journal start history old.journal new.journal)
+      (gates_quiet : AreQuiet old.gates new.gates) (whole : JournalWhole options.journal known.start history old.journal new.journal)
       (reduces : ProblemAccepted options old.files (Comes reduced)) where
-    reduces_to : (report : List ℕ) → report ≡ report_text reduced.counts → ReducesTo options old.files start history reduced.text.items report
+    reduces_to : (report : List ℕ) → report ≡ report_text reduced.counts → ReducesTo options old.files known history reduced.text.items report
     reduces_to report is =
         but (Comes reduced)
         (λ problem.
-        IsDigestOf (start_text problem) start × (counts : Counts)
-        × ReducesFrom options.jobs none_kept (admits_of options problem) problem history reduced.text.items counts × (report ≡ report_text counts)
-        × AreOf options.jobs none_kept (admits_of options problem) problem history)
+        IsKnownOf options old.files (start_text problem) known × (counts : Counts)
+        × ReducesFrom options.jobs (verdict_in known.kept) (admits_of options problem) problem history reduced.text.items counts × (report ≡ report_text counts)
+        × AreOf options.jobs (verdict_in known.kept) (admits_of options problem) problem history)
         (λ problem from. (from.0.0, reduced.counts, from.1, is, from.0.1)) reduces
 
     write_at : (outcome : Result (Vec ℕ) Refusal) → WriteEnds options.output read new.files (Ok reduced) outcome
-        → MatchResult outcome (λ report. ReduceReports options start history old new report.items)
-        (λ refusal. ReduceFails options start history old new refusal)
+        → MatchResult outcome (λ report. ReduceReports options known history old new report.items)
+        (λ refusal. ReduceFails options known history old new refusal)
     write_at (Ok report) ends = λ out out'. record {
       reduced = record { text = reduced.text.items; reduces = reduces_to report.items ends.0; written = ends.1 };
       others = λ name other. ends.2 name other ∙ same name;
@@ -216,30 +288,31 @@ module _ (options : ReduceOptions) (may_say : List ℕ → Verdict → Type 0) (
     pub stops_write : (outcome : Result (Vec ℕ) Refusal) → WriteEnds options.output read new.files (Ok reduced) outcome
         → ReduceSteps options may_say history old new outcome
     stops_write outcome ends =
-        record { start = start; sound = all_sound; of_input = λ out out'. inr are; others = first.others; ends = write_at outcome ends }
+        record { known = known; sound = all_sound; of_input = λ out out'. inr are; others = first.others; ends = write_at outcome ends }
 
   -- whatever the run came to
   pub stops_ran : (read : SeenFiles) → SameFiles old.files.shown read.shown → IsQuiet old.files read → (ran : Result Reduced RunFault)
       → ProblemAccepted options old.files
-      (λ problem. IsHistoryWith options start history problem × ProblemEnds (admits_of options problem) problem (run_to ran) ran)
-      → JournalAfter options.jobs options.journal start none_kept history old.journal new.journal ran → (outcome : Result (Vec ℕ) Refusal)
+      (λ problem. IsHistoryWith options old.files known history problem × ProblemEnds (admits_of options problem) problem (run_to ran) ran)
+      → JournalAfter options.jobs options.journal known.start (verdict_in known.kept) history old.journal new.journal ran → (outcome : Result (Vec ℕ) Refusal)
       → WriteEnds options.output read new.files ran outcome → ReduceSteps options may_say history old new outcome
   stops_ran read same quiet (Ok reduced) ends whole outcome writes =
       let P : Problem → Type 0 =
-      λ problem. IsHistoryWith options start history problem
-      × (ReducesFrom options.jobs none_kept (admits_of options problem) problem history reduced.text.items reduced.counts
+      λ problem. IsHistoryWith options old.files known history problem
+      × (ReducesFrom options.jobs (verdict_in known.kept) (admits_of options problem) problem history reduced.text.items reduced.counts
       × NoneFailed (run_to (Ok reduced)).before (run_to (Ok reduced)).after) in
       stops_write read reduced same quiet (all_quiet first (some P ends).1.1.1.1.gates) whole
       (but P (Comes reduced) (λ problem is. (is.0, is.1.0)) ends) outcome writes
   stops_ran read same quiet (Err fault) ends after outcome writes =
       subst (λ (o : Result (Vec ℕ) Refusal). ReduceSteps options may_say history old new o) (sym writes.0.1)
       (stops_run fault writes.0.0 writes.0.2 (subst (FilesKept old.files) (sym writes.1) (record { same = same; quiet = quiet }))
-      (but (λ problem. IsHistoryWith options start history problem × RunFails (admits_of options problem) problem (run_to (Err fault)) fault) (Fails fault)
-      (λ problem is. (is.0.0, is.1)) ends) after)
+      (but (λ problem. IsHistoryWith options old.files known history problem × RunFails (admits_of options problem) problem (run_to (Err fault)) fault)
+      (Fails fault) (λ problem is. (is.0.0, is.1)) ends) after)
 
   -- a gate wasn't opened
   pub stops_unopened : (read : SeenFiles) → SameFiles old.files.shown read.shown → IsQuiet old.files read → (ran : Result Reduced RunFault)
-      → ProblemAccepted options old.files (λ problem. IsDigestOf (start_text problem) start × ProblemEnds (admits_of options problem) problem (run_to ran) ran)
+      → ProblemAccepted options old.files
+      (λ problem. IsKnownOf options old.files (start_text problem) known × ProblemEnds (admits_of options problem) problem (run_to ran) ran)
       → Unopened options history (logs_of part) (logs_of part') old.journal new.journal ran → (outcome : Result (Vec ℕ) Refusal)
       → WriteEnds options.output read new.files ran outcome → ReduceSteps options may_say history old new outcome
   stops_unopened read same quiet ran ends un outcome writes =
@@ -247,12 +320,12 @@ module _ (options : ReduceOptions) (may_say : List ℕ → Verdict → Type 0) (
       let why : ProblemAccepted options old.files (Fails (fault_of un.worker un.fault)) =
       subst
       (λ (r : Result Reduced RunFault). ProblemAccepted options old.files
-      (λ problem. IsDigestOf (start_text problem) start × ProblemEnds (admits_of options problem) problem (run_to ran) r))
+      (λ problem. IsKnownOf options old.files (start_text problem) known × ProblemEnds (admits_of options problem) problem (run_to ran) r))
       un.answer ends in
       let wrote : WriteEnds options.output read new.files answer outcome =
       subst (λ (r : Result Reduced RunFault). WriteEnds options.output read new.files r outcome) un.answer writes in
       subst (λ (o : Result (Vec ℕ) Refusal). ReduceSteps options may_say history old new o) (sym wrote.0.1) (record {
-        start = start;
+        known = known;
         sound = all_sound;
         of_input = λ out out'. inr are;
         others = first.others;
@@ -261,6 +334,10 @@ module _ (options : ReduceOptions) (may_say : List ℕ → Verdict → Type 0) (
             (subst (FilesKept old.files) (sym wrote.1) (record { same = same; quiet = quiet })) why un.left);
       })
 
+-- what was known before a run
+abbrev pub known_of : Run → Known
+known_of run = record { start = run.start; kept = run.kept }
+
 -- the steps of a problem that was read and accepted, of which this must stay, and whose run is this
 pub steps_end : (options : ReduceOptions) (may_say : List ℕ → Verdict → Type 0) (run : Run) (files files' : SeenFiles) (gates gates' : List SeenGate)
     (read : SeenFiles) (problem : ReadProblem) (stays : Stays) (outcome : Result (Vec ℕ) Refusal)
@@ -268,48 +345,41 @@ pub steps_end : (options : ReduceOptions) (may_say : List ℕ → Verdict → Ty
     → ProblemRead (problem_in options) files (IsReadAs (admits_read options problem) problem) → stays ≡ stays_read options problem
     → AcceptsStart options (start_read problem)
     → SameFiles files.shown read.shown → IsQuiet files read
-    → IsDigestOf (start_read problem) run.start → run.kept ≡ [] → IsSoundStarted options may_say run
+    → IsKnownOf options files (start_read problem) (known_of run) → IsSoundStarted options may_say run
     → ((one : Problem) → IsReadAs (stays_admit stays) problem one → IsRunOf (stays_admit stays) one run)
     → WriteEnds options.output read files' run.outcome outcome
     → ReduceSteps options may_say run.history (record { files = files; gates = gates; journal = run.before.journal })
     (record { files = files'; gates = gates'; journal = run.after.journal }) outcome
-steps_end options may_say run files files' gates gates' read problem stays outcome first jobs was these all same quiet digest none sound runs writes =
+steps_end options may_say run files files' gates gates' read problem stays outcome first jobs was these all same quiet is_known sound runs writes =
     let old : Inside = record { files = files; gates = gates; journal = run.before.journal } in
     let new : Inside = record { files = files'; gates = gates'; journal = run.after.journal } in
-    let lent : Run = record run { workers = options.jobs; kept = [] } in
+    let lent : Run = record run { workers = options.jobs } in
+    let known : Known = known_of run in
     let guard : Admits = admits_read options problem in
     let these_run : (one : Problem) → IsReadAs guard problem one → IsRunOf guard one lent =
-    subst (λ (rs : List Record). (one : Problem) → IsReadAs guard problem one → IsRunOf guard one (record run { workers = options.jobs; kept = rs })) none
-    (subst (λ (n : ℕ). (one : Problem) → IsReadAs guard problem one → IsRunOf guard one (record run { workers = n })) (sym jobs)
-    (subst (λ (k : Stays). (one : Problem) → IsReadAs (stays_admit k) problem one → IsRunOf (stays_admit k) one run) these runs)) in
+    subst (λ (n : ℕ). (one : Problem) → IsReadAs guard problem one → IsRunOf guard one (record run { workers = n })) (sym jobs)
+    (subst (λ (k : Stays). (one : Problem) → IsReadAs (stays_admit k) problem one → IsRunOf (stays_admit k) one run) these runs) in
     let all_run : (one : Problem) → IsReadAs guard problem one → IsRunOf (admits_of options one) one lent =
     λ one is. subst (λ (k : Stays). IsRunOf (stays_admit k) one lent) (sym (stays_as options guard problem one is)) (these_run one is) in
-    let Of : Problem → Type 0 = IsHistoryWith options run.start run.history in
-    let Ends : Problem → Type 0 = λ one. IsDigestOf (start_text one) run.start × ProblemEnds (admits_of options one) one lent run.outcome in
-    let digest_at : (one : Problem) → IsReadAs guard problem one → IsDigestOf (start_text one) run.start =
-    λ one is. subst (λ (text : List ℕ). IsDigestOf text run.start) (sym (start_as guard problem one is)) digest in
-    let left : StartLeaves options.jobs options run.start none_kept run.history (logs_of run.before.gates)
+    let Of : Problem → Type 0 = IsHistoryWith options files known run.history in
+    let Ends : Problem → Type 0 = λ one. IsKnownOf options files (start_text one) known × ProblemEnds (admits_of options one) one lent run.outcome in
+    let known_at : (one : Problem) → IsReadAs guard problem one → IsKnownOf options files (start_text one) known =
+    λ one is. subst (λ (text : List ℕ). IsKnownOf options files text known) (sym (start_as guard problem one is)) is_known in
+    let left : StartLeaves options.jobs options run.start (verdict_in run.kept) run.history (logs_of run.before.gates)
     (logs_of run.after.gates) run.before.journal run.after.journal run.outcome =
-    subst (λ (rs : List Record). StartLeaves options.jobs options run.start (verdict_in rs) run.history (logs_of run.before.gates) (logs_of run.after.gates)
-    run.before.journal run.after.journal run.outcome) none
-    (subst (λ (n : ℕ). StartLeaves n options run.start (verdict_in run.kept) run.history (logs_of run.before.gates) (logs_of run.after.gates)
-    run.before.journal run.after.journal run.outcome) (sym jobs) sound.journal) in
-    let records : RecordsAreSound options may_say [] run.history (logs_of run.before.gates) (logs_of run.after.gates) run.before.journal run.after.journal =
-    subst (λ (rs : List Record). RecordsAreSound options may_say rs run.history (logs_of run.before.gates) (logs_of run.after.gates) run.before.journal
-    run.after.journal) none sound.records in
+    subst (λ (n : ℕ). StartLeaves n options run.start (verdict_in run.kept) run.history (logs_of run.before.gates) (logs_of run.after.gates)
+    run.before.journal run.after.journal run.outcome) (sym jobs) sound.journal in
     let accepted : ProblemAccepted options files Of =
-    accepted_as options files guard problem Of all (λ one is. (digest_at one is, (all_run one is).history)) was in
+    accepted_as options files guard problem Of all (λ one is. (known_at one is, (all_run one is).history)) was in
     let ended : ProblemAccepted options files Ends =
-    accepted_as options files guard problem Ends all (λ one is. (digest_at one is, (all_run one is).ends)) was in
+    accepted_as options files guard problem Ends all (λ one is. (known_at one is, (all_run one is).ends)) was in
     let both : ProblemAccepted options files (λ one. Of one × ProblemEnds (admits_of options one) one lent run.outcome) =
     accepted_as options files guard problem (λ one. Of one × ProblemEnds (admits_of options one) one lent run.outcome) all
-    (λ one is. ((digest_at one is, (all_run one is).history), (all_run one is).ends)) was in
-    ⊎_elim (λ after. stops_ran options may_say run.start run.history old new run.before.gates run.after.gates first records accepted read same quiet
-    run.outcome
-    both after outcome writes)
-    (λ un. stops_unopened options may_say run.start run.history old new run.before.gates run.after.gates first records accepted read same quiet
-    run.outcome ended un
-    outcome writes) left
+    (λ one is. ((known_at one is, (all_run one is).history), (all_run one is).ends)) was in
+    ⊎_elim (λ after. stops_ran options may_say known run.history old new run.before.gates run.after.gates first sound.records accepted read same quiet
+    run.outcome both after outcome writes)
+    (λ un. stops_unopened options may_say known run.history old new run.before.gates run.after.gates first sound.records accepted read same quiet
+    run.outcome ended un outcome writes) left
 
 -- the end of the command
 pub reduce_ends : InputFaultOnce → InputsAreInLanguage
@@ -319,25 +389,25 @@ pub reduce_ends : InputFaultOnce → InputsAreInLanguage
     → MatchResult outcome (λ report. EndsWithAnswer report.items out out' status) (λ refusal. EndsRefused out out' status refusal)
     → Reduces options may_say (beside old out) (beside new out') status
 reduce_ends faults languages options may_say history old new out out' outcome status steps end =
-    let ends : ReduceEnds options steps.start history (beside old out) (beside new out') status = at outcome steps.ends end in
+    let ends : ReduceEnds options steps.known history (beside old out) (beside new out') status = at outcome steps.ends end in
     record {
       history = history;
-      start = steps.start;
+      known = steps.known;
       ends = ends;
-      must_end = must_end faults languages options steps.start history (beside old out) (beside new out') ends;
+      must_end = must_end faults languages options steps.known history (beside old out) (beside new out') ends;
       sound = steps.sound;
       of_input = steps.of_input out out';
       others = steps.others;
     }
   where
     at : (outcome : Result (Vec ℕ) Refusal)
-        → MatchResult outcome (λ report. ReduceReports options steps.start history old new report.items)
-        (λ refusal. ReduceFails options steps.start history old new refusal)
+        → MatchResult outcome (λ report. ReduceReports options steps.known history old new report.items)
+        (λ refusal. ReduceFails options steps.known history old new refusal)
         → MatchResult outcome (λ report. EndsWithAnswer report.items out out' status) (λ refusal. EndsRefused out out' status refusal)
-        → ReduceEnds options steps.start history (beside old out) (beside new out') status
+        → ReduceEnds options steps.known history (beside old out) (beside new out') status
     at (Ok report) reports end =
-        ⊎_elim (λ all. subst (ReduceEnds options steps.start history (beside old out) (beside new out')) (sym all.0)
+        ⊎_elim (λ all. subst (ReduceEnds options steps.known history (beside old out) (beside new out')) (sym all.0)
         (done report.items (reports out out') all.1))
-        (λ part. subst (ReduceEnds options steps.start history (beside old out) (beside new out')) (sym part.0)
+        (λ part. subst (ReduceEnds options steps.known history (beside old out) (beside new out')) (sym part.0)
         (unput report.items (reports out out') part.1)) end
-    at (Err refusal) fails end = subst (ReduceEnds options steps.start history (beside old out) (beside new out')) (sym end.status_is) (fails out out' end.line)
+    at (Err refusal) fails end = subst (ReduceEnds options steps.known history (beside old out) (beside new out')) (sym end.status_is) (fails out out' end.line)

@@ -1,6 +1,7 @@
 mod DigestLemmas
 mod ProblemLemmas
 mod ReadLemmas
+mod ResumeLemmas
 mod StartLemmas
 mod OpenedLemmas
 mod MustEndLemmas

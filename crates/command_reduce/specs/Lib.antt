@@ -4,6 +4,7 @@ pub use Rattle.reduce_trees_input.specs as ReduceTreesInput
 pub use Rattle.command_reduce_calls.specs as CommandReduceCalls
 pub use Rattle.command_grammar.specs.Texts
 pub use Rattle.command_grammar.specs.Grammar
+pub mod Resume
 pub mod Reduce
 pub mod ReduceByStatus
 pub mod inner

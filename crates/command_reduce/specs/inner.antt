@@ -1,3 +1,4 @@
+pub mod Resume
 pub mod Reduce
 pub mod Run
 pub mod Read

@@ -10,6 +10,7 @@ ghost use Rattle.run_problem.specs.Read.{IsReadAs, IsReady, numbers_read, start_
 ghost use Rattle.run_problem.specs.Ends.{IsRunOf};
 ghost use Rattle.command_problem.specs.Problem.{ProblemRead};
 ghost use Rattle.command_reduce.specs.Reduce.{Reduces, problem_in};
+ghost use Rattle.command_reduce.specs.Resume.{IsKnownOf};
 ghost use Rattle.command_reduce.specs.inner.Reduce.{ReduceSteps};
 ghost use Rattle.command_reduce.specs.inner.Read.{AcceptFails, admits_read, stays_read};
 ghost use Rattle.command_reduce_calls.specs.Stays.{AcceptsStart, StaysFail};
@@ -18,6 +19,7 @@ ghost use Rattle.command_words.specs.Lines.{reduce_read};
 ghost use Rattle.command_ends.specs.World.{IsQuiet, seen, seen_gates};
 
 use crate::read::read_problem;
+use crate::resume::read_kept;
 use command_ends::{Ended, Refusal, end_with};
 use command_reduce_calls::{
     guard_of_lines, guard_of_tokens, open_gates, open_journal, without_gate, write_result,
@@ -26,7 +28,7 @@ use command_words::ReduceLine;
 use edge_io::{Files, Sink};
 use keep_guard::Guard;
 use line_guard::{MustStay, all_keep_protected};
-use reduce_journal::Event;
+use reduce_journal::{Event, digest_of};
 use reduce_trees_input::{input_fault_once, inputs_are_in_language};
 use run_gated::{Known, Ran};
 use run_problem::{ReadProblem, run_problem};
@@ -115,18 +117,20 @@ fn guard_of<'a>(
     }
 }
 
-/// What is reduced, and the guard of what must stay of it.
+/// What is reduced, the guard of what must stay of it, and what is known of it: its digest, and the
+/// verdicts of the journal that is resumed.
 fn accept<'a, F: Files>(
     alloc: Global,
     line: &ReduceLine<'a>,
     files: &mut F,
-) -> Result<(ReadProblem, Guard<MustStay<'a>>), Refusal>
+) -> Result<(ReadProblem, Guard<MustStay<'a>>, Known), Refusal>
     ensures problem { IfOk result (λ accepted. ProblemRead (problem_in (reduce_read line.now)) (seen F.content F.faults files.old)
         (IsReadAs (admits_read (reduce_read line.now) accepted.0) accepted.0)) }
     ensures ready { IfOk result (λ accepted. IsReady accepted.0) }
     ensures guard { IfOk result (λ accepted. accepted.1 ≡ stays_read (reduce_read line.now) accepted.0) }
     ensures accepts { IfOk result (λ accepted. AcceptsStart (reduce_read line.now) (start_read accepted.0)) }
     ensures kept { IfOk result (λ accepted. stays_admit accepted.1 (numbers_read accepted.0) (start_read accepted.0) ≡ true) }
+    ensures known { IfOk result (λ accepted. IsKnownOf (reduce_read line.now) (seen F.content F.faults files.old) (start_read accepted.0) accepted.2) }
     ensures quiet { OnOk result (IsQuiet (seen F.content F.faults files.old) (seen F.content F.faults files.new)) }
     ensures same { SameFiles (F.content files.old) (F.content files.new) }
     ensures refused { IfErr result (λ refusal. AcceptFails (reduce_read line.now) (seen F.content F.faults files.old)
@@ -135,7 +139,9 @@ fn accept<'a, F: Files>(
     all_keep_protected();
     let problem = read_problem(alloc, line, files)?;
     let guard = guard_of(alloc, line, &problem)?;
-    Ok((problem, guard))
+    let start = digest_of(problem.start());
+    let kept = read_kept(alloc, files, line.resume, &start)?;
+    Ok((problem, guard, Known { start, kept }))
 }
 
 /// What the steps of `reduce` come to: the journal, what was recorded and committed, and the report or why
@@ -176,8 +182,7 @@ fn reduce_steps<F: Files, G: Gate + Send, J: Sink + Drop + Send, W: Threads + Wa
             events: Vec::new(alloc),
             outcome: Err(refusal),
         },
-        Ok((problem, guard)) => {
-            let known = Known::of_start(alloc, problem.start());
+        Ok((problem, guard, known)) => {
             let Ran {
                 journal,
                 events,
@@ -204,10 +209,10 @@ fn reduce_steps<F: Files, G: Gate + Send, J: Sink + Drop + Send, W: Threads + Wa
 
 /// Reduces a file as the command line says, in this order: the grammar is read, where there is one;
 /// the input is read, and cut into tokens and parsed by the grammar; the keep texts are looked for in
-/// it, and the lines that are named; the gates of as many workers as the command line says are opened, and
-/// the journal; the gates are asked, one of them for each text, and each verdict is written into the
-/// journal before it is used; the result is written; and its report is put on `out`. A start whose verdict
-/// is no ends the run. The other workers do nothing.
+/// it, and the lines that are named; the journal that is resumed is read, where one is; the gates of as
+/// many workers as the command line says are opened, and the journal; the gates are asked, one of them for
+/// each text, and each verdict is written into the journal before it is used; the result is written; and
+/// its report is put on `out`. A start whose verdict is no ends the run. The other workers do nothing.
 pub fn reduce<F: Files, G: Gate + Send, J: Sink + Drop + Send, O: Sink, W: Threads + Wait + Sync>(
     rt: &W,
     alloc: Global,

@@ -43,7 +43,7 @@ found_in_words table words matches read = record { once = read.once; has = read.
 -- ---- the tables
 
 pub reduce_is_table : IsTable reduce_table
-reduce_is_table = ((refl, (refl, (refl, (refl, (refl, (refl, (refl, (refl, (refl, (refl, (refl, (refl, (refl, (refl, (refl, tt))))))))))))))), refl)
+reduce_is_table = ((refl, (refl, (refl, (refl, (refl, (refl, (refl, (refl, (refl, (refl, (refl, (refl, (refl, (refl, (refl, (refl, tt)))))))))))))))), refl)
 
 pub normal_is_table : IsTable normal_table
 normal_is_table = ((refl, (refl, (refl, tt))), refl)
@@ -166,10 +166,10 @@ line_without_jobs uses keeps protects none =
 
 -- what is said of the files, of the journal and of the folder, by their options
 line_is : (uses : List Use) (mode : ModeOptions) (jobs : ℕ) (keeps : List (List ℕ)) (protects : ProtectOptions) (input output script : List ℕ)
-    (journal : Option (List ℕ)) (work : List ℕ)
+    (journal resume : Option (List ℕ)) (work : List ℕ)
     → input ≡ text_of (codes "input") uses
     → output ≡ text_of (codes "output") uses → script ≡ text_of (codes "script") uses → journal ≡ value_of (codes "journal") uses
-    → work ≡ value_or (codes "perses-work") (codes "work") uses
+    → resume ≡ value_of (codes "resume") uses → work ≡ value_or (codes "perses-work") (codes "work") uses
     → Some
     (record {
       mode = mode;
@@ -177,20 +177,22 @@ line_is : (uses : List Use) (mode : ModeOptions) (jobs : ℕ) (keeps : List (Lis
       output = output;
       script = script;
       journal = unwrap_or journal (output ++ codes ".journal");
+      resume = resume;
       work = work;
       jobs = jobs;
       keeps = keeps;
       protects = protects;
     })
     ≡ line_of_parts uses (Some mode) (Some jobs) (Some keeps) (Some protects)
-line_is uses mode jobs keeps protects input output script journal work input_is output_is script_is journal_is work_is =
-    rw (input_is, output_is, script_is, journal_is, work_is) refl
+line_is uses mode jobs keeps protects input output script journal resume work input_is output_is script_is journal_is resume_is work_is =
+    rw (input_is, output_is, script_is, journal_is, resume_is, work_is) refl
 
 pub this_line : (uses : List Use) (mode : ModeOptions) (jobs : ℕ) (keeps : List (List ℕ)) (protects : ProtectOptions) (input output script : List ℕ)
-    (journal : Option (List ℕ)) (work : List ℕ)
+    (journal resume : Option (List ℕ)) (work : List ℕ)
     → (names_files (codes "script") uses ≡ true) × (input ≡ text_of (codes "input") uses) × (output ≡ text_of (codes "output") uses)
     × (script ≡ text_of (codes "script") uses)
-    → journal ≡ value_of (codes "journal") uses → work ≡ value_or (codes "perses-work") (codes "work") uses → Some mode ≡ fitting_mode uses
+    → journal ≡ value_of (codes "journal") uses → resume ≡ value_of (codes "resume") uses
+    → work ≡ value_or (codes "perses-work") (codes "work") uses → Some mode ≡ fitting_mode uses
     → Some jobs ≡ fitting_jobs uses
     → Some (record {
       mode = mode;
@@ -198,14 +200,15 @@ pub this_line : (uses : List Use) (mode : ModeOptions) (jobs : ℕ) (keeps : Lis
       output = output;
       script = script;
       journal = unwrap_or journal (output ++ codes ".journal");
+      resume = resume;
       work = work;
       jobs = jobs;
       keeps = keeps;
       protects = protects;
     })
     ≡ line_with uses (Some keeps) (Some protects)
-this_line uses mode jobs keeps protects input output script journal work files journal_is work_is mode_is jobs_are =
-    line_is uses mode jobs keeps protects input output script journal work files.1 files.2 files.3 journal_is work_is
+this_line uses mode jobs keeps protects input output script journal resume work files journal_is resume_is work_is mode_is jobs_are =
+    line_is uses mode jobs keeps protects input output script journal resume work files.1 files.2 files.3 journal_is resume_is work_is
     ∙ ap₂ (λ (m : Option ModeOptions) (j : Option ℕ). line_of_parts uses m j (Some keeps) (Some protects)) mode_is jobs_are
     ∙ sym (ap (λ (b : Bool). if b then line_of_parts uses (fitting_mode uses) (fitting_jobs uses) (Some keeps) (Some protects) else None) files.0)
 

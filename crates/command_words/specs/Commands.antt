@@ -31,14 +31,15 @@ pub record ProtectOptions : Type 0 where
   pub texts : List (List ℕ)
   pub only : Option LineSpan
 
--- what a command line of `reduce` gives: the mode; the paths of the input, the output, the script and
--- the journal; the folder of the candidates; the number of workers; the keep texts; and which lines must stay
+-- what a command line of `reduce` gives: the mode; the paths of the input, the output, the script and the journal; that of the
+-- journal that is resumed, where one is; the folder of the candidates; the number of workers; the keep texts; and which lines must stay
 pub record ReduceOptions : Type 0 where
   pub mode : ModeOptions
   pub input : List ℕ
   pub output : List ℕ
   pub script : List ℕ
   pub journal : List ℕ
+  pub resume : Option (List ℕ)
   pub work : List ℕ
   pub jobs : ℕ
   pub keeps : List (List ℕ)
@@ -135,6 +136,7 @@ reduction_in uses mode = record {
   output = text_of (codes "output") uses;
   script = text_of (codes "script") uses;
   journal = value_or (text_of (codes "output") uses ++ codes ".journal") (codes "journal") uses;
+  resume = value_of (codes "resume") uses;
   work = value_or (codes "perses-work") (codes "work") uses;
   jobs = digits_value 10 (value_or (codes "1") (codes "jobs") uses);
   keeps = values_for (codes "keep") uses;

@@ -42,6 +42,7 @@ reduce_read line = record {
   output = line.output.now;
   script = line.script.now;
   journal = journal_of line;
+  resume = option_map (λ resume. resume.now) line.resume;
   work = line.work.now;
   jobs = line.jobs;
   keeps = map (λ keep. keep.now) line.keeps.items;

@@ -34,13 +34,14 @@ reduce_table =
     ∷ (optional (codes "start") Values.any_text
     ∷ (optional (codes "jobs") (Values.number 1 16)
     ∷ (optional (codes "journal") Values.any_text
+    ∷ (optional (codes "resume") Values.any_text
     ∷ (optional (codes "work") Values.any_text
     ∷ (repeated 8 (codes "keep") Values.any_text
     ∷ (optional (codes "squeeze") Values.no_value
     ∷ (repeated 8 (codes "protect") any_lines
     ∷ (repeated 8 (codes "protect-text") Values.any_text
     ∷ (optional (codes "only") any_lines
-    ∷ []))))))))))))))
+    ∷ [])))))))))))))))
 
 -- the files of a run are named, and the mode and the keep texts are said as for `reduce`
 abbrev pub check_table : List OptionRow

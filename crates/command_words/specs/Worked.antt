@@ -30,6 +30,7 @@ plain_reduction mode =
       output = codes "o";
       script = codes "s";
       journal = codes "o.journal";
+      resume = None;
       work = codes "perses-work";
       jobs = 1;
       keeps = [];
@@ -51,6 +52,7 @@ with_all = record {
   output = codes "o";
   script = codes "s";
   journal = codes "j";
+  resume = None;
   work = codes "w";
   jobs = 16;
   keeps = codes "a=b" ∷ codes "c" ∷ [];

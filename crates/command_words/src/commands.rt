@@ -64,6 +64,8 @@ pub struct ReduceLine<'a> {
     pub script: &'a str,
     /// The journal, where it is named: see [`journal_name`](crate::journal_name).
     pub journal: Option<&'a str>,
+    /// The journal of an earlier run that is resumed, where one is named.
+    pub resume: Option<&'a str>,
     /// The folder that candidates are written below.
     pub work: &'a str,
     /// How many workers ask scripts.

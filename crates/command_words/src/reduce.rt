@@ -17,7 +17,7 @@ use faults::Memory;
 use std::alloc::Global;
 
 /// The options of `reduce`.
-static OPTIONS: [ClapOption; 15] = [
+static OPTIONS: [ClapOption; 16] = [
     ClapOption {
         name: "input",
         takes: Takes::Value,
@@ -52,6 +52,10 @@ static OPTIONS: [ClapOption; 15] = [
     },
     ClapOption {
         name: "journal",
+        takes: Takes::Value,
+    },
+    ClapOption {
+        name: "resume",
         takes: Takes::Value,
     },
     ClapOption {
@@ -135,6 +139,7 @@ fn line_with<'a>(
         output: files.output,
         script: files.script,
         journal: matches.get_str("journal"),
+        resume: matches.get_str("resume"),
         work: matches.get_str("work").unwrap_or(WORK_FOLDER),
         jobs,
         keeps,

@@ -24,7 +24,7 @@ pub struct Snapshot {
     pub yes: u64,
     /// The time that all asks took together.
     pub asking: Duration,
-    /// The answers that the journal holds.
+    /// The records that the journal holds, asked and kept.
     pub records: u64,
     /// The bytes of the start; 0 before the journal has it.
     pub start_bytes: u64,

@@ -86,9 +86,12 @@ impl JournalLines {
     }
 }
 
-/// Whether the verdict is yes, and the bytes of the text, of the first line of a record.
+/// Whether the verdict is yes, and the bytes of the text, of the first line of a record, asked or kept.
 fn record_in(line: &str) -> Option<(bool, u64)> {
-    let line = line.strip_prefix("R ")?.strip_suffix('\n')?;
+    let (letter, line) = line.strip_suffix('\n')?.split_once(' ')?;
+    if letter != "R" && letter != "K" {
+        return None;
+    }
     let (verdict, bytes) = line.split_once(' ')?;
     Some((verdict == "y", bytes.parse().ok()?))
 }

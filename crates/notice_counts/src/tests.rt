@@ -29,15 +29,15 @@ fn counts_asks_and_passes_them_on(rt: HostRuntime) -> io::Result<()> {
 fn follows_the_best_text(rt: HostRuntime) -> io::Result<()> {
     let alloc = rt.alloc();
     let counts = Arc::new(alloc, Counts::new())?;
-    let sink = match MemSink::new(alloc, 100, vec![in alloc; 11]?) {
+    let sink = match MemSink::new(alloc, 100, vec![in alloc; 16]?) {
         Ok(sink) => sink,
         Err(_) => return Err(io::Error::other("out of memory")),
     };
     let mut journal = CountedJournal::new(alloc, sink, Arc::try_clone(&counts)?);
-    // A text that looks like a commit isn't one.
-    let rows: [(&str, u64, u64); 10] = [
-        ("perses-journal 1\n", 0, 0),
-        ("R y 4\n", 1, 0),
+    // A text that looks like a commit or a record isn't one.
+    let rows: [(&str, u64, u64); 15] = [
+        ("perses-journal 2\nS 0123\n", 0, 0),
+        ("K y 4\n", 1, 0),
         ("C 1\n", 1, 0),
         ("\n", 1, 0),
         ("C 1\n", 1, 4),
@@ -46,6 +46,11 @@ fn follows_the_best_text(rt: HostRuntime) -> io::Result<()> {
         ("\n", 2, 4),
         ("C 1\n", 2, 4),
         ("C 2\n", 2, 2),
+        ("K n 6\n", 3, 2),
+        ("K y 9\n", 3, 2),
+        ("\n", 3, 2),
+        ("C 3\n", 3, 2),
+        ("C 1\n", 3, 4),
     ];
     for (piece, records, best) in rows {
         assert!(rt; journal.put(piece.as_bytes()).is_ok());
@@ -54,8 +59,8 @@ fn follows_the_best_text(rt: HostRuntime) -> io::Result<()> {
     }
     assert_eq!(rt; counts.snapshot().start_bytes, 4);
     // What isn't put isn't counted.
-    assert!(rt; journal.put(b"R y 1\n").is_err());
-    assert_eq!(rt; counts.snapshot().records, 2);
+    assert!(rt; journal.put(b"K y 1\n").is_err());
+    assert_eq!(rt; counts.snapshot().records, 3);
     assert_eq!(rt; journal.inner().faults(), 1);
     Ok(())
 }

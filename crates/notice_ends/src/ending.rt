@@ -83,6 +83,14 @@ fn unread_grammar<'a>(ending: &Ending<'a>) -> Option<&'a str> {
     }
 }
 
+/// The file of a reduction that couldn't be read: the input is read first, then the journal that is resumed.
+fn unread_of_reduction<'a>(ending: &Ending<'a>, line: &ReduceLine<'a>) -> &'a str {
+    match ending.input {
+        None => line.input,
+        Some(_) => line.resume.unwrap_or(line.input),
+    }
+}
+
 /// The file of a run that couldn't be read: the input is read first, then the result, then the journal.
 fn unread_of_run<'a>(ending: &Ending<'a>, line: &CheckLine<'a>) -> &'a str {
     match (ending.input, ending.result) {
@@ -96,9 +104,27 @@ fn unread_of_run<'a>(ending: &Ending<'a>, line: &CheckLine<'a>) -> &'a str {
 fn unread<'a>(ending: &Ending<'a>) -> &'a str {
     match (unread_grammar(ending), ending.line) {
         (Some(path), _) => path,
-        (None, CommandLine::Reduce(line)) => line.input,
+        (None, CommandLine::Reduce(line)) => unread_of_reduction(ending, line),
         (None, CommandLine::Check(line)) => unread_of_run(ending, line),
         _ => "the grammar",
+    }
+}
+
+/// Why the journal that is named isn't resumed.
+fn add_unresumed(text: &mut String, ending: &Ending<'_>) -> Result<(), AllocError> {
+    let CommandLine::Reduce(line) = ending.line else {
+        return Ok(());
+    };
+    let (input, journal) = (line.input, line.resume.unwrap_or(ending.journal));
+    match ending.status {
+        13 => write!(
+            text,
+            "perses: {journal} is the journal of another input than {input}; without --resume the run begins anew\n"
+        ),
+        _ => write!(
+            text,
+            "perses: {journal} isn't a journal that can be read; without --resume the run begins anew\n"
+        ),
     }
 }
 
@@ -204,6 +230,7 @@ fn add_cause(text: &mut String, alloc: Global, ending: &Ending<'_>) -> Result<()
         9 => add_missing(text, ending),
         10 => add_long(text, ending),
         12 => add_failure(text, ending.journal, ending.reasons.journal),
+        13 | 14 => add_unresumed(text, ending),
         _ => Ok(()),
     }
 }

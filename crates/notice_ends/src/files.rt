@@ -19,7 +19,7 @@ pub(crate) fn add_failure(
 pub(crate) fn add_too_long(text: &mut String, name: &str) -> Result<(), AllocError> {
     write!(
         text,
-        "perses: {name} is too long: an input has at most 262144 bytes, a grammar 1048576\n"
+        "perses: {name} is too long: an input or a grammar has at most 1048576 bytes, a journal 1073741824\n"
     )
 }
 

@@ -32,7 +32,7 @@ pub(crate) struct Row {
     pub(crate) required: bool,
 }
 
-static REDUCE: [&str; 15] = [
+static REDUCE: [&str; 16] = [
     "input",
     "output",
     "script",
@@ -42,6 +42,7 @@ static REDUCE: [&str; 15] = [
     "start",
     "jobs",
     "journal",
+    "resume",
     "work",
     "keep",
     "squeeze",

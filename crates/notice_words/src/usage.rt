@@ -14,6 +14,7 @@ Of an input that makes something fail, reduce writes the part that matters.
   --start R    the rule that the input is of; else the first one
   --jobs N     so many scripts run at once, from 1 to 16; else 1
   --journal F  where each answer is kept; else the output's name and .journal
+  --resume F   the journal of a run that was stopped: nothing is asked again
   --work D     the folder for candidates; else perses-work
   --keep T     a text that must stay, up to 8 times
   --protect A-B  lines A to B must stay, up to 8 times
@@ -22,7 +23,6 @@ Of an input that makes something fail, reduce writes the part that matters.
   --squeeze    tries the input without comments and long gaps first
 normal prints the normal form of a grammar. selftest reduces a generated case.
 check says whether the files of a run agree; it takes --lexer, --start, --keep
-and --squeeze too. In the environment PERSES_QUIET=1 silences standard error;
-PERSES_PROGRESS=1 gives a line every ten seconds where it is no terminal.
-All options: man ./docs/perses.1. What each status means: docs/GUIDE.md.
+and --squeeze too. PERSES_QUIET=1 silences standard error; without a terminal
+PERSES_PROGRESS=1 adds a line each 10 s. See man ./docs/perses.1, docs/GUIDE.md.
 ";

@@ -96,6 +96,18 @@ test "$status" = 137
 test ! -s put
 journal_is lines unwritten 'R y 4\na\nb\n\nC 1\n'
 test ! -e unwritten
+# It is resumed from there, in the same file: what the journal has isn't asked again.
+make_script empty-only 'test ! -s "$1"'
+ends 0 "$(report '2 -> 0' '4 -> 0' 2 2 2)" reduce --mode lines --input lines --output unwritten --script empty-only \
+    --resume unwritten.journal
+journal_is lines unwritten 'K y 4\na\nb\n\nC 1\nR y 0\n\nC 2\n'
+# A journal of other bytes isn't, nor is what is no journal; no file changes then.
+cp unwritten.journal other
+other="journal is of another start: $(sha256sum < lines | cut -c 1-64), input: $(sha256sum < bytes | cut -c 1-64)"
+ends 13 "perses: $other" reduce --mode lines --input bytes --output unwritten --script always --resume other
+ends 14 'perses: bad journal head' reduce --mode lines --input lines --output unwritten --script always --resume lines
+ends 3 'perses: cannot read journal' reduce --mode lines --input lines --output unwritten --script always --resume missing
+cmp other unwritten.journal
 
 # Each candidate is a program for the shell, which says yes where its last command succeeds.
 printf 'true\nfalse\ntrue\n' > yes
@@ -184,9 +196,9 @@ test ! -e kept.journal
 
 # The longest input is read, asked, recorded and written whole; of one byte more, and of a device without
 # an end, nothing is asked.
-head -c 262144 /dev/zero | tr '\000' x > long
+head -c 1048576 /dev/zero | tr '\000' x > long
 make_script only-long 'cmp -s "$1" long'
-whole=$(report '1 -> 1' '262144 -> 262144' 1 2 2)
+whole=$(report '1 -> 1' '1048576 -> 1048576' 1 2 2)
 reduces_long() {
     "$program" reduce --mode lines --script only-long --input "$@" > put
     printf '%s\n' "$whole" | cmp - put
@@ -194,7 +206,7 @@ reduces_long() {
 reduces_long long --output long.o
 cmp long.o long
 {
-    journal_text long 'R y 262144\n'
+    journal_text long 'R y 1048576\n'
     cat long
     printf '\nC 1\nR n 0\n\nC 2\n'
 } > long.journal
@@ -213,7 +225,7 @@ cat long | reduces_long /dev/stdin --output long.o --journal log
 cmp long.o long
 cmp log long.journal
 "$program" reduce --mode lines --script only-long --input long --output /dev/stdout --journal log | {
-    head -c 262144 | cmp - long
+    head -c 1048576 | cmp - long
     cat > put
 }
 printf '%s\n' "$whole" | cmp - put

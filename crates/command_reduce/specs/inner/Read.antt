@@ -4,6 +4,8 @@ use Rattle.keep_guard.specs.Keep.{first_missing}
 use Rattle.line_guard.specs.MustStay.{Stays, stays_admit}
 use Rattle.reduce_core.specs.Reduction.{Admits}
 use Rattle.reduce_trees_input.specs.Parsed.{tokens_in}
+use Rattle.reduce_journal.specs.Journal.{IsDigestOf}
+use Rattle.reduce_journal.specs.declared.digest.Digest.{Digest}
 use Rattle.run_problem.specs.declared.problem.ReadProblem.{ReadProblem}
 use Rattle.run_problem.specs.declared.problem.ReadProblem.TheVariants as read
 use Rattle.run_problem.specs.Problem.{start_text}
@@ -15,7 +17,8 @@ use Rattle.command_words.specs.Commands.{ReduceOptions}
 use Rattle.command_ends.specs.World.{IsQuiet, SeenFiles}
 use Rattle.command_problem.specs.Problem.{ProblemRead}
 use Rattle.command_problem.specs.Read.{ProblemFails}
-use Rattle.command_reduce.specs.Reduce.{problem_in}
+use Rattle.command_reduce.specs.Reduce.{ProblemAccepted, problem_in}
+use Rattle.command_reduce.specs.inner.Resume.{ResumeRefused}
 
 -- what must stay of what was read
 abbrev pub stays_read : ReduceOptions → ReadProblem → Stays
@@ -38,6 +41,13 @@ StaysRefused options files (BeyondLines line) =
     × IsBeyondRefusal last lines (BeyondLines line)
 StaysRefused options files _ = ⊥
 
+-- why a problem that was accepted isn't reduced: the journal that is to be resumed can't be
+abbrev pub ResumeFailsOver : ReduceOptions → SeenFiles → SeenFiles → Refusal → Type 0
+ResumeFailsOver options old new refusal =
+    (start : Digest) × ProblemAccepted options old (λ problem. IsDigestOf (start_text problem) start)
+    × ResumeRefused options.resume start old new refusal
+
 -- why there is no problem that is accepted: none was read, or that
 abbrev pub AcceptFails : ReduceOptions → SeenFiles → SeenFiles → Refusal → Type 0
-AcceptFails options old new refusal = ProblemFails (problem_in options) old new refusal ⊎ (IsQuiet old new × StaysRefused options old refusal)
+AcceptFails options old new refusal =
+    ProblemFails (problem_in options) old new refusal ⊎ ((IsQuiet old new × StaysRefused options old refusal) ⊎ ResumeFailsOver options old new refusal)

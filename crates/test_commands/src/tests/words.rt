@@ -69,6 +69,10 @@ fn reduce_text(alloc: Global, line: &ReduceLine<'_>) -> Result<String, Fail> {
         "{mode}: {} to {} asking {}, {journal}, {}, {}",
         line.input, line.output, line.script, line.work, line.jobs
     )?;
+    if let Some(resume) = line.resume {
+        text.push_str(", resuming ")?;
+        text.push_str(resume)?;
+    }
     for keep in &line.keeps {
         text.push_str(", keep ")?;
         text.push_str(keep)?;
@@ -124,7 +128,7 @@ const LINES: &str = "lines: i to o asking s, o.journal, perses-work, 1";
 const TREES: &str = "perses by g from -: i to o asking s, o.journal, perses-work, 1";
 
 /// Command lines, each with what it asks for.
-const ACCEPTED: [(&str, &str); 26] = [
+const ACCEPTED: [(&str, &str); 28] = [
     (
         "perses reduce --mode lines --input i --output o --script s",
         LINES,
@@ -168,6 +172,14 @@ const ACCEPTED: [(&str, &str); 26] = [
     (
         "p reduce --only=1-4294967295 --protect 4294967295-4294967295 --grammar g --input i --output o --script s --keep a",
         "perses by g from -: i to o asking s, o.journal, perses-work, 1, keep a, protect 4294967295-4294967295, only 1-4294967295",
+    ),
+    (
+        "p reduce --resume=o.journal --mode lines --input i --output o --script s",
+        "lines: i to o asking s, o.journal, perses-work, 1, resuming o.journal",
+    ),
+    (
+        "p reduce --keep a --resume j --grammar g --input i --output o --script s",
+        "perses by g from -: i to o asking s, o.journal, perses-work, 1, resuming j, keep a",
     ),
     ("p normal --grammar g", "normal g from -"),
     ("p normal --start r --grammar=g", "normal g from r"),
@@ -227,7 +239,7 @@ fn reads_command_lines_in_any_order(rt: HostRuntime) -> Result<(), Fail> {
 }
 
 /// What is no command line where it comes after the words of mode `lines`.
-const REFUSED_AFTER_LINES: [&str; 36] = [
+const REFUSED_AFTER_LINES: [&str; 38] = [
     "--squeeze",
     "--grammar g",
     "--lexer l",
@@ -235,6 +247,8 @@ const REFUSED_AFTER_LINES: [&str; 36] = [
     "--keep 1 --keep 2 --keep 3 --keep 4 --keep 5 --keep 6 --keep 7 --keep 8 --keep 9",
     "--mode lines",
     "--input i",
+    "--resume j --resume j",
+    "--resume",
     "--keep",
     "--keep ",
     "--keep=",
@@ -267,7 +281,7 @@ const REFUSED_AFTER_LINES: [&str; 36] = [
 ];
 
 /// What is no command line where it comes after the words of a check in mode `lines`.
-const REFUSED_AFTER_CHECK: [&str; 19] = [
+const REFUSED_AFTER_CHECK: [&str; 20] = [
     "--grammar g",
     "--lexer l",
     "--start r",
@@ -282,6 +296,7 @@ const REFUSED_AFTER_CHECK: [&str; 19] = [
     "--protect 1-1",
     "--protect-text a",
     "--only 1-1",
+    "--resume j",
     "--keep=",
     "--keep -a",
     "--keep 1 --keep 2 --keep 3 --keep 4 --keep 5 --keep 6 --keep 7 --keep 8 --keep 9",
@@ -290,7 +305,7 @@ const REFUSED_AFTER_CHECK: [&str; 19] = [
 ];
 
 /// Lines that are no command line.
-const REFUSED: [&str; 47] = [
+const REFUSED: [&str; 49] = [
     "",
     "perses",
     "perses shrink",
@@ -321,6 +336,8 @@ const REFUSED: [&str; 47] = [
     "perses normal --lexer l",
     "perses normal --grammar g --lexer l --lexer l",
     "perses normal --grammar g --input i",
+    "perses normal --grammar g --resume j",
+    "perses selftest --number 0 --size 1 --resume j",
     "perses normal --grammar g g",
     "perses selftest --number 0 --size 1 --lexer l",
     "perses selftest --number 0",

@@ -8,7 +8,8 @@ use Rattle.command_words.specs.Lines.{check_read}
 use Rattle.command_ends.specs.declared.status.NamedFile.TheVariants as named
 use Rattle.command_ends.specs.Status.{ReadFails}
 use Rattle.command_ends.specs.World.{SeenFiles, journal_limit, seen}
-use Rattle.command_check.proofs.FileLemmas.{journal_bad, journal_fails, result_fails, run_read, same_seen}
+use Rattle.command_check.proofs.FileLemmas.{journal_bad, journal_fails, result_fails, run_read}
+use Rattle.command_ends.proofs.Lent.{same_seen}
 use Rattle.command_check.proofs.files.read_run.Goals as goal
 
 pub returns-in_err-output-clause-refused : goal.returns-in_err-output-clause-refused

@@ -12,7 +12,8 @@ use Rattle.command_words.specs.Lines.{check_read}
 use Rattle.command_ends.specs.World.{SeenFiles, seen}
 use Rattle.command_check.specs.Check.{IsResultReached, RunRead}
 use Rattle.command_check.specs.inner.Check.{CheckFails}
-use Rattle.command_check.proofs.FileLemmas.{cause_fails, confirmed_of, found_of, memory_fails, result_reached, same_seen}
+use Rattle.command_check.proofs.FileLemmas.{cause_fails, confirmed_of, found_of, memory_fails, result_reached}
+use Rattle.command_ends.proofs.Lent.{same_seen}
 use Rattle.command_check.proofs.steps.answer_of.Goals as goal
 
 pub returns-in_err-run-clause-refused : goal.returns-in_err-run-clause-refused

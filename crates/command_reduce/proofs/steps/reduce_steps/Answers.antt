@@ -1,6 +1,5 @@
-use Rattle.std.proofs.Common.{◌++◌, [], ℕ, List, drop, refl, subst, sym, take}
+use Rattle.std.proofs.Common.{◌++◌, [], drop, refl, sym, take}
 use Rattle.sha2.specs.Sha256.{sha256}
-use Rattle.reduce_journal.specs.Journal.{IsDigestOf}
 use Rattle.command_reduce.specs.inner.Reduce.{Inside}
 use Rattle.command_words.specs.Lines.{reduce_read}
 use Rattle.command_ends.specs.World.{seen, seen_gates}
@@ -19,8 +18,8 @@ returns-in-Err-clause-steps g c =
       journal = seen g.J.Sink.put_so_far g.J.Sink.faults c.args.journal;
     } in
     let new : Inside = record old { files = seen g.F.Files.content g.F.Files.faults c.accept.new.files } in
-    stops_accept (reduce_read c.args.line.now) g.G.Gate.may_say (record { bytes = sha256 [] }) c.new.result.items old new (digest_is [])
-    c.new.ensures.items refl refl c.accept.ensures.same c.in-Err.refusal
+    stops_accept (reduce_read c.args.line.now) g.G.Gate.may_say (record { start = record { bytes = sha256 [] }; kept = [] }) c.new.result.items old new
+    (digest_is []) c.new.ensures.items refl refl c.accept.ensures.same c.in-Err.refusal
     c.in-Err.ensures.refused
 
 pub reduce_start-journal-requires-clause-idle : goal.reduce_start-journal-requires-clause-idle
@@ -45,7 +44,7 @@ returns-in-Ok-clause-steps g c =
     let workers = c.args.workers.now in
     let ran = c.reduce_start-journal in
     let run : Run = run_of g.G.Gate.log g.G.Gate.faults g.J.Sink.put_so_far g.J.Sink.faults (take jobs workers) ran.new.workers c.args.journal
-    c.of_start-known.result ran.result in
+    c.in-Ok.known ran.result in
     steps_end (reduce_read c.args.line.now) g.G.Gate.may_say run (seen g.F.Files.content g.F.Files.faults c.args.files.now)
     (seen g.F.Files.content g.F.Files.faults c.write_result-outcome.new.files)
     (seen_gates g.G.Gate.log g.G.Gate.faults workers) (seen_gates g.G.Gate.log g.G.Gate.faults (ran.new.workers ++ drop jobs workers))
@@ -53,7 +52,5 @@ returns-in-Ok-clause-steps g c =
     (lent_first workers jobs c.requires.idle c.requires.enough ran.new.workers ran.ensures.as_many
     (reduce_read c.args.line.now) refl g.G.Gate.log g.G.Gate.faults)
     (sym (lent_many workers jobs c.requires.idle c.requires.enough)) c.in-Ok.ensures.problem c.in-Ok.ensures.guard c.in-Ok.ensures.accepts c.accept.ensures.same
-    c.in-Ok.ensures.quiet (subst (λ (text : List ℕ). IsDigestOf text c.of_start-known.result.start) c.start.ensures c.of_start-known.ensures.start)
-    c.of_start-known.ensures.none
-    ran.ensures.sound ran.ensures.problem
+    c.in-Ok.ensures.quiet c.in-Ok.ensures.known ran.ensures.sound ran.ensures.problem
     c.write_result-outcome.ensures

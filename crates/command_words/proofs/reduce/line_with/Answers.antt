@@ -19,9 +19,10 @@ returns-in_err-jobs-clause-line c = λ uses has. rw c.from_residual-in_err-jobs.
 pub returns-clause-line : goal.returns-clause-line
 returns-clause-line c = λ uses has.
     let m = c.args.matches.now in
-    let work = first_or reduce_table uses m (codes "work") has (named_by reduce_table (codes "work") refl) _ _ _ c.get_str-2.ensures c.unwrap_or.ensures in
-    this_line uses (mode_of c.in_ok-mode.mode) c.in_ok-jobs.jobs (map (λ keep. keep.now) c.args.keeps.items) (protects_read c.args.protects) _ _ _ _ _
+    let work = first_or reduce_table uses m (codes "work") has (named_by reduce_table (codes "work") refl) _ _ _ c.get_str-3.ensures c.unwrap_or.ensures in
+    this_line uses (mode_of c.in_ok-mode.mode) c.in_ok-jobs.jobs (map (λ keep. keep.now) c.args.keeps.items) (protects_read c.args.protects) _ _ _ _ _ _
     (c.in_ok-files.ensures uses has)
-    (c.get_str.ensures ∙ has.has.first (codes "journal") (named_by reduce_table (codes "journal") refl)) work
+    (c.get_str.ensures ∙ has.has.first (codes "journal") (named_by reduce_table (codes "journal") refl))
+    (c.get_str-2.ensures ∙ has.has.first (codes "resume") (named_by reduce_table (codes "resume") refl)) work
     (c.in_ok-mode.ensures reduce_table uses reduce_chooses has)
     (c.in_ok-jobs.ensures.jobs uses has)
