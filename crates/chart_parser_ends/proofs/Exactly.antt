@@ -3,6 +3,7 @@ use Rattle.std.proofs.Common.{◌≡◌, ℕ, zero, suc, ◌+◌, ◌<◌, ◌�
 use Rattle.std.proofs.lemmas.List.{take_more}
 use Rattle.std.proofs.lemmas.List.Elements.{Contains-append_left, Contains-append_right}
 use Rattle.std.specs.List.{Contains}
+use Rattle.std.specs.Prelude.{◌↔◌, Bool, IsTrue}
 use Rattle.std.specs.List.Sorted.{IsStrictlyIncreasing}
 use Rattle.chart_parser_ends.specs.Positions.{HasAll, HasExactly, IsGrown}
 
@@ -25,6 +26,10 @@ exactly_one P y p only = record {
 
 pub exactly_same : (P Q : ℕ → Type 0) (xs : List ℕ) → ((x : ℕ) → P x → Q x) → ((x : ℕ) → Q x → P x) → HasExactly P xs → HasExactly Q xs
 exactly_same P Q xs f g h = record { rising = h.rising; only = λ x c. f x (h.only x c); all = λ x q. h.all x (g x q) }
+
+-- Where a list has exactly what P holds of, asking it is asking P.
+pub has_exactly : (P : ℕ → Type 0) (xs : List ℕ) (x : ℕ) (b : Bool) → HasExactly P xs → (IsTrue b ↔ Contains xs x) → (IsTrue b ↔ P x)
+has_exactly P xs x b h is = (λ t. h.only x (is.0 t), λ p. is.1 (h.all x p))
 
 -- What is in the old list or is added, and nothing else.
 pub exactly_grown : (P Q R : ℕ → Type 0) (old new : List ℕ) → HasExactly P old → IsStrictlyIncreasing new → IsGrown Q old new → HasAll Q new

@@ -1,14 +1,17 @@
 -- How a row grows while it is made.
-use Rattle.std.proofs.Common.{◌≡◌, ℕ, zero, suc, ◌+◌, ◌<◌, ◌≤◌, ◌⊎◌, inl, inr, true, List, [], ◌∷◌, length}
+use Rattle.std.proofs.Common.{◌≡◌, ℕ, zero, suc, ◌+◌, ◌/◌, ◌<◌, ◌≤◌, ◌⊎◌, inl, inr, true, List, [], ◌∷◌, length, vec_len}
 use Rattle.std.proofs.Common.{Some, slice_get, get_or, refl, sym, ap, ◌∙◌, subst, arith}
+use Rattle.std.proofs.lemmas.List.Sums.{sum_by-le}
+use Rattle.std.proofs.lemmas.Nat.{div-add-mod', mul-le}
 use Rattle.std.specs.Global.{Vec}
-use Rattle.std.specs.List.{Contains}
+use Rattle.std.specs.List.{All, Contains}
 use Rattle.normal_form.specs.declared.normal.Sym.{Sym}
 use Rattle.normal_form.specs.declared.normal.Sym.TheVariants.{Rule}
 use Rattle.normal_form.specs.Form.{RuleForm, NormalForm}
 use Rattle.normal_form.specs.View.{alts_form}
 use Rattle.chart_parser_ends.specs.declared.firsts.FirstRow.{FirstRow}
-use Rattle.chart_parser_ends.specs.inner.Firsts.{Covers, CoversAlternative, HasKind, HasWhatBegins, IsCovered, Keeps, MayBeEmpty, MayBeEmptyBefore}
+use Rattle.chart_parser_ends.specs.inner.Firsts.{Covers, CoversAlternative, HasCells, HasKind, HasWhatBegins, IsCovered, Keeps, MayBeEmpty}
+use Rattle.chart_parser_ends.specs.inner.Firsts.{MayBeEmptyBefore, cells}
 use Rattle.chart_parser_ends.proofs.Rising.{order}
 
 pub covers_more : (N : NormalForm) (rows : List FirstRow) (alt : List Sym) (a b : FirstRow) → Keeps a b → CoversAlternative N rows alt a
@@ -114,3 +117,11 @@ same_row a b e = cc
 pub empty_by_row : (rows : List FirstRow) (r : ℕ) (row : FirstRow) → slice_get rows r ≡ Some row → (row.empty ≡ true → MayBeEmpty rows (Rule r))
     × (MayBeEmpty rows (Rule r) → row.empty ≡ true)
 empty_by_row rows r row there = (λ e other at. subst (λ x. x.empty ≡ true) (same_row row other (sym there ∙ at)) e, λ h. h row there)
+
+-- So few rows, each with so few cells, have few cells in all.
+pub few_cells : (rows : List FirstRow) (kinds count size most : ℕ) → All (HasCells kinds) rows → length rows ≤ count → count ≤ size → size ≤ most / kinds
+    → cells rows ≤ most
+few_cells rows kinds count size most each few within small =
+    let by_rows = sum_by-le (λ (row : FirstRow). vec_len row.begins) kinds rows each in
+    let product = mul-le (length rows) kinds (most / kinds) kinds (omega (arith, few, within, small)) (omega arith) in
+    omega (arith, by_rows, product, div-add-mod' most kinds)

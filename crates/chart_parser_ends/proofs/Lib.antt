@@ -3,12 +3,14 @@ mod Exactly
 mod Spans
 mod SymbolEnds
 mod Pooled
+mod Numbered
 mod AllPositions
 mod Greatest
 mod Choosing
 mod Optionally
 mod Repeating
 mod Beginning
+mod Going
 mod FirstKinds
 mod FirstRows
 pub mod Lent

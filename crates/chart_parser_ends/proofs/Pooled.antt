@@ -1,10 +1,12 @@
 -- Entries whose ends are in one list.
-use Rattle.std.proofs.Common.{◌≡◌, ℕ, zero, suc, ◌+◌, ◌-◌, ◌≤◌, List, [], ◌∷◌, ◌++◌, length, take, drop, refl, ap, ◌∙◌, arith, length-drop}
+use Rattle.std.proofs.Common.{◌≡◌, ℕ, zero, suc, ◌+◌, ◌-◌, ◌≤◌, List, [], ◌∷◌, ◌++◌, length, take, drop, refl, sym, ap, ◌∙◌, subst, arith}
+use Rattle.std.proofs.Common.{length-append, length-drop}
 use Rattle.std.proofs.lemmas.List.{map_push, take-append-le}
+use Rattle.std.proofs.lemmas.List.Elements.{All-push}
 use Rattle.std.proofs.Math.Seq.{drop-append_seam}
-use Rattle.std.specs.Prelude.{slice_range}
+use Rattle.std.specs.Prelude.{Result, Ok, Err, OnErr, OnOk, slice_range}
 use Rattle.chart_parser_ends.specs.declared.entries.EndsRange.{EndsRange}
-use Rattle.chart_parser_ends.specs.inner.Entries.{entry}
+use Rattle.chart_parser_ends.specs.inner.Entries.{Entry, entry}
 use Rattle.chart_parser_ends.specs.inner.Ranges.{AreWithin, entries_in, entry_in}
 
 drop_append : (n : ℕ) (xs ys : List ℕ) → n ≤ length xs → drop n (xs ++ ys) ≡ drop n xs ++ ys
@@ -44,3 +46,32 @@ entries_pushed ends more rs r l from count =
     range =
         ap (λ f. slice_range (ends ++ more) f (f + r.count)) from ∙ ap (λ n. slice_range (ends ++ more) (length ends) (length ends + n)) count
         ∙ last_range ends more
+
+pub none_within : (ends : List ℕ) (rs : List EndsRange) → rs ≡ [] → AreWithin ends rs
+none_within ends rs e = subst (AreWithin ends) (sym e) (λ k d l. absurd (omega (arith, l)))
+
+within_longer : (ends more : List ℕ) (rs : List EndsRange) → AreWithin ends rs → AreWithin (ends ++ more) rs
+within_longer ends more rs within k d l = omega (arith, within k d l, length-append ends more)
+
+-- The ends of an entry come after all others, and then its range is added, or isn't.
+module _ (ends more longer : List ℕ) (rs new : List EndsRange) (r : EndsRange) (items : longer ≡ ends ++ more) (within : AreWithin ends rs)
+    (from : r.from ≡ length ends) (count : r.count ≡ length more) where
+  range_last : r.from + r.count ≤ length longer
+  range_last = omega (arith, from, count, ap length items, length-append ends more)
+
+  earlier_within : AreWithin longer rs
+  earlier_within = subst (λ es. AreWithin es rs) (sym items) (within_longer ends more rs within)
+
+  pub within_added : {T E : Type 0} (result : Result T E) → OnOk result (new ≡ rs ++ r ∷ []) → OnErr result (new ≡ rs) → AreWithin longer new
+  within_added (Ok x) added same =
+      subst (AreWithin longer) (sym added) (All-push (λ (q : EndsRange). q.from + q.count ≤ length longer) rs r earlier_within range_last)
+  within_added (Err x) added same = subst (AreWithin longer) (sym same) earlier_within
+
+  pub entry_added : (old : List Entry) → entries_in ends rs ≡ old → new ≡ rs ++ r ∷ [] → entries_in longer new ≡ old ++ entry r.rule r.first more ∷ []
+  entry_added old view added =
+      ap (entries_in longer) added ∙ ap (λ es. entries_in es (rs ++ r ∷ [])) items ∙ entries_pushed ends more rs r within from count
+      ∙ ap (λ es. es ++ entry r.rule r.first more ∷ []) view
+
+  pub none_added : (old : List Entry) → entries_in ends rs ≡ old → new ≡ rs → entries_in longer new ≡ old
+  none_added old view same =
+      ap (entries_in longer) same ∙ ap (λ es. entries_in es rs) items ∙ entries_stay ends more rs within ∙ view

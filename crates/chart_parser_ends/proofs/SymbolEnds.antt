@@ -12,6 +12,7 @@ use Rattle.normal_form.specs.declared.normal.Sym.{Sym}
 use Rattle.normal_form.specs.declared.normal.Sym.TheVariants.{Kind, Set, Rule}
 use Rattle.normal_form.specs.Form.{NormalForm}
 use Rattle.normal_form_spans.specs.Spans.{DerivesSpan}
+use Rattle.chart_parser_ends.specs.Input.{ChartInput}
 use Rattle.chart_parser_ends.specs.inner.Entries.{Entry, entry}
 use Rattle.chart_parser_ends.specs.inner.Exact.{IsExact, IsTokenOf}
 use Rattle.chart_parser_ends.specs.Positions.{HasExactly}
@@ -97,3 +98,14 @@ pub exact_stored : {T E : Type 0} (N : NormalForm) (K : List ℕ) (old new : Lis
     → OnOk r (new ≡ old ++ e ∷ []) → OnErr r (new ≡ old) → All (IsExact N K) new
 exact_stored N K old new e (Ok x) all exact more same = subst (All (IsExact N K)) (sym more) (All-push (IsExact N K) old e all exact)
 exact_stored N K old new e (Err x) all exact more same = subst (All (IsExact N K)) (sym same) all
+
+-- The ends that the table of a chart has are those of the chart's symbol.
+pub looked_up : (x z : ChartInput) (s : Sym) (first : ℕ) (ends : List ℕ) → x ≡ z → HasExactly (DerivesSpan x.normal x.kinds s first) ends
+    → HasExactly (DerivesSpan z.normal z.kinds s first) ends
+looked_up x z s first ends e h = subst (λ y. HasExactly (DerivesSpan y.normal y.kinds s first) ends) e h
+
+-- So are those of the entry of its rule, after that was worked out.
+pub worked_out : (x y z : ChartInput) (s : Sym) (rule first : ℕ) (ends : List ℕ) → y ≡ x → x ≡ z → s ≡ Rule rule
+    → HasExactly (DerivesSpan y.normal y.kinds (Rule rule) first) ends → HasExactly (DerivesSpan z.normal z.kinds s first) ends
+worked_out x y z s rule first ends same e is h =
+    looked_up y z s first ends (same ∙ e) (subst (λ t. HasExactly (DerivesSpan y.normal y.kinds t first) ends) (sym is) h)

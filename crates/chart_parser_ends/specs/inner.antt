@@ -1,9 +1,11 @@
 pub mod Positions
 pub mod Input
 pub mod Entries
+pub mod Filled
 pub mod Ranges
 pub mod Exact
 pub mod Firsts
 pub mod Kept
 pub mod Working
+pub mod UnderWay
 pub mod Moves

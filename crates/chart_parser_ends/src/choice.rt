@@ -4,10 +4,10 @@ ghost use Rattle.std.specs.Prelude.{◌+◌, ◌<◌, ◌≡◌, ◌^◌, [], le
 ghost use Rattle.std.specs.List.Sorted.{IsStrictlyIncreasing};
 ghost use Rattle.std.specs.Option.{option_map};
 ghost use Rattle.chart_parser_ends.specs.inner.Moves.{Begins, FindsAlternative, HasNextAlternative, HasNextSymbol, IsNextSymbol};
-ghost use Rattle.chart_parser_ends.specs.inner.Working.{IsChoice, IsStep};
+ghost use Rattle.chart_parser_ends.specs.inner.Working.{IsChoice, IsStep, IsStepOn};
 
-use crate::chart::Chart;
 use crate::positions::add_all;
+use crate::table::ChartTable;
 use crate::work::{RuleEnds, Step, Work};
 use faults::Memory;
 use normal_form::{Normal, NormalRule, Sym};
@@ -97,14 +97,15 @@ impl Choice {
     }
 
     /// Goes on by the symbol from the next position.
-    fn next_position(mut self, symbol: Sym, chart: &Chart<'_>) -> Result<Step, Memory>
-        requires work { IsChoice chart.now.normal chart.now.kinds self }
-        requires next { IsNextSymbol chart.now.normal self symbol }
+    fn next_position(mut self, symbol: Sym, table: &ChartTable<'_>) -> Result<Step, Memory>
+        requires work { IsChoice table.now.input.normal table.now.input.kinds self }
+        requires next { IsNextSymbol table.now.input.normal self symbol }
         requires more { self.done < length self.current.items }
-        ensures { IfOk result (IsStep chart.now.normal chart.now.kinds) }
+        ensures step { IfOk result (IsStep table.now.input.normal table.now.input.kinds) }
+        ensures same { IfOk result (IsStepOn self.rule self.first) }
     {
         let position = self.current[self.done];
-        match chart.ends_of(symbol, position) {
+        match table.ends_of(symbol, position) {
             Ok(more) => {
                 add_all(&mut self.next, more)?;
                 self.done += 1;
@@ -115,11 +116,12 @@ impl Choice {
     }
 
     /// One step of the work.
-    pub(crate) fn step(mut self, chart: &Chart<'_>) -> Result<Step, Memory>
-        requires { IsChoice chart.now.normal chart.now.kinds self }
-        ensures { IfOk result (IsStep chart.now.normal chart.now.kinds) }
+    pub(crate) fn step(mut self, table: &ChartTable<'_>) -> Result<Step, Memory>
+        requires { IsChoice table.now.input.normal table.now.input.kinds self }
+        ensures step { IfOk result (IsStep table.now.input.normal table.now.input.kinds) }
+        ensures same { IfOk result (IsStepOn self.rule self.first) }
     {
-        let Some(symbols) = alternative(chart.normal(), self.rule, self.alternative) else {
+        let Some(symbols) = alternative(table.normal(), self.rule, self.alternative) else {
             let Choice {
                 rule,
                 first,
@@ -138,6 +140,6 @@ impl Choice {
             return Ok(Step::More(Work::Choice(self)));
         }
         let symbol = symbols[self.symbol];
-        self.next_position(symbol, chart)
+        self.next_position(symbol, table)
     }
 }

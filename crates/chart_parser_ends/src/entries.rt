@@ -1,8 +1,9 @@
 //! The entries of a chart.
 
-ghost use Rattle.std.specs.Prelude.{◌≡◌, ◌&&◌, ◌++◌, ◌∷◌, [], IfSome, OnErr, OnOk, nat_eq};
+ghost use Rattle.std.specs.Prelude.{◌≡◌, ◌++◌, ◌∷◌, ◌<◌, ◌^◌, [], length, IfNone, IfSome, OnErr, OnOk};
 ghost use Rattle.std.specs.List.{Contains};
-ghost use Rattle.chart_parser_ends.specs.inner.Entries.{entry};
+ghost use Rattle.chart_parser_ends.specs.inner.Entries.{HasEntry, entry};
+ghost use Rattle.chart_parser_ends.specs.inner.Ranges.{IsNumbered};
 
 use faults::Memory;
 use std::alloc::Global;
@@ -19,15 +20,6 @@ pub(crate) struct EndsRange {
     first: u32,
     from: u32,
     count: u32,
-}
-
-impl EndsRange {
-    /// Whether the ends are those of the rule at the position.
-    fn is_of(&self, rule: u32, first: u32) -> bool
-        ensures { result ≡ nat_eq self.now.rule rule && nat_eq self.now.first first }
-    {
-        self.rule == rule && self.first == first
-    }
 }
 
 /// For some rules and positions all positions where the rule can end that begins there, rising. To
@@ -47,11 +39,32 @@ impl Model for Entries {
 
     ghost Value = { List Entry };
 
-    ghost use Rattle.chart_parser_ends.specs.inner.Ranges.{AreWithin, entries_in};
+    ghost use Rattle.chart_parser_ends.specs.inner.Ranges.{AreWithin, IsNumbered, entries_in};
 
     ghost view = { λ e. entries_in e.ends.items e.ranges.items };
 
-    ghost invariant = { λ e. AreWithin e.ends.items e.ranges.items };
+    ghost invariant = { λ e. record {
+      within : AreWithin e.ends.items e.ranges.items;
+      numbered : IsNumbered e.ranges.items e.numbers;
+    } };
+}
+
+/// Adds a range, with its number.
+fn add_range(
+    ranges: &mut Vec<EndsRange>,
+    numbers: &mut HashMap<(u32, u32), u32>,
+    range: EndsRange,
+) -> Result<(), Memory>
+    requires { length ranges.old.items < 2 ^ 32 }
+    ensures ok { OnOk result (ranges.new.items ≡ ranges.old.items ++ range ∷ []) }
+    ensures err { OnErr result (ranges.new.items ≡ ranges.old.items) }
+    ensures numbered { IsNumbered ranges.old.items numbers.old → IsNumbered ranges.new.items numbers.new }
+{
+    let number = ranges.len() as u32;
+    ranges.reserve(1)?;
+    numbers.insert((range.rule, range.first), number)?;
+    ranges.push(range).unwrap();
+    Ok(())
 }
 
 impl Entries {
@@ -59,30 +72,28 @@ impl Entries {
     pub(crate) fn new(alloc: Global) -> Entries
         ensures { result ≡ [] }
     {
+        let ranges = Vec::new(alloc);
+        let numbers = HashMap::new(alloc);
         Entries {
-            ranges: Vec::new(alloc),
+            ranges,
             ends: Vec::new(alloc),
-            numbers: HashMap::new(alloc),
+            numbers,
         }
     }
 
-    /// The ends of the rule at the position, if there is an entry for them.
+    /// The ends of the rule at the position; none exactly where there is no entry for them.
     pub(crate) fn find(&self, rule: u32, first: u32) -> Option<&[u32]>
-        ensures { IfSome result (λ ends. Contains self.now (entry rule first ends.now)) }
+        ensures found { IfSome result (λ ends. Contains self.now (entry rule first ends.now)) }
+        ensures none { IfNone result (¬ HasEntry self.now rule first) }
     {
-        let number = match self.numbers.get(&(rule, first)) {
-            Some(number) => *number as usize,
-            None => return None,
-        };
-        if number >= self.ranges.len() {
-            return None;
+        match self.numbers.get(&(rule, first)) {
+            Some(number) => {
+                let range = self.ranges[*number as usize];
+                let from = range.from as usize;
+                Some(&self.ends[from..from + range.count as usize])
+            }
+            None => None,
         }
-        let range = self.ranges[number];
-        if !range.is_of(rule, first) {
-            return None;
-        }
-        let from = range.from as usize;
-        Some(&self.ends[from..from + range.count as usize])
     }
 
     /// Adds an entry.
@@ -90,19 +101,17 @@ impl Entries {
         ensures ok { OnOk result (self.new ≡ self.old ++ entry rule first ends.now ∷ []) }
         ensures err { OnErr result (self.new ≡ self.old) }
     {
-        let number = self.ranges.len();
         let from = self.ends.len();
-        if number >= MOST || from > MOST || ends.len() > MOST - from {
+        if self.ranges.len() >= MOST || from > MOST || ends.len() > MOST - from {
             return Err(Memory);
         }
         self.ends.extend_from_slice(ends)?;
-        self.numbers.insert((rule, first), number as u32)?;
-        self.ranges.push(EndsRange {
+        let range = EndsRange {
             rule,
             first,
             from: from as u32,
             count: ends.len() as u32,
-        })?;
-        Ok(())
+        };
+        add_range(&mut self.ranges, &mut self.numbers, range)
     }
 }

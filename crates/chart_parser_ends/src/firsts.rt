@@ -1,12 +1,12 @@
 //! Which kinds the rules of a normal form can begin with.
 
 ghost use Rattle.std.specs.Prelude.{◌≡◌, ◌↔◌, ℕ, List, ◌<◌, ◌≤◌, ◌^◌, true, false, length, slice_index, slice_index_or, vec_len, IfOk, IsTrue};
-ghost use Rattle.std.specs.List.{Contains};
+ghost use Rattle.std.specs.List.{All, Contains};
 ghost use Rattle.normal_form.specs.View.{alts_form, rule_form};
 ghost use Rattle.normal_form.specs.declared.normal.Sym;
 ghost use Rattle.chart_parser_ends.specs.inner.Exact.{IsTokenOf};
-ghost use Rattle.chart_parser_ends.specs.inner.Firsts.{AreClosed, AreFirsts, CanBeLeftOut, Covers, CoversAlternative, HasKind};
-ghost use Rattle.chart_parser_ends.specs.inner.Firsts.{HasWhatBegins, IsCovered, Keeps, MayBeEmpty, MayBegin};
+ghost use Rattle.chart_parser_ends.specs.inner.Firsts.{AreClosed, AreFirsts, CanBeLeftOut, Covers, CoversAlternative, HasCells, HasKind};
+ghost use Rattle.chart_parser_ends.specs.inner.Firsts.{HasWhatBegins, IsCovered, Keeps, MayBeEmpty, MayBegin, cells};
 
 use faults::Memory;
 use normal_form::{Normal, NormalRule, Sym};
@@ -116,7 +116,8 @@ fn add_alternatives(
     rows: &[FirstRow],
 )
     requires { vec_len row.old.begins ≤ 2 ^ 32 }
-    ensures { (alt : List Sym) → Contains (alts_form alternatives.now) alt → CoversAlternative normal.now rows.now alt row.new }
+    ensures len { vec_len row.new.begins ≡ vec_len row.old.begins }
+    ensures covers { (alt : List Sym) → Contains (alts_form alternatives.now) alt → CoversAlternative normal.now rows.now alt row.new }
 {
     for symbols in alternatives {
         add_alternative(row, symbols, normal, rows);
@@ -132,7 +133,8 @@ fn row_of(
     rows: &[FirstRow],
 ) -> Result<FirstRow, Memory>
     requires { kinds ≤ 2 ^ 32 }
-    ensures { IfOk result (Covers normal.now rows.now (rule_form rule.now)) }
+    ensures len { IfOk result (λ row. vec_len row.begins ≡ kinds) }
+    ensures covers { IfOk result (Covers normal.now rows.now (rule_form rule.now)) }
 {
     let mut row = FirstRow {
         empty: false,
@@ -224,7 +226,10 @@ fn grow(
     normal: &Normal,
     rows: &mut Vec<FirstRow>,
 ) -> Result<bool, Memory>
-    requires { kinds ≤ 2 ^ 32 }
+    requires kinds { kinds ≤ 2 ^ 32 }
+    requires cells { All (HasCells kinds) rows.old.items }
+    ensures len { length rows.new.items ≡ length rows.old.items }
+    ensures cells { All (HasCells kinds) rows.new.items }
 {
     let rules = normal.rules();
     let mut grown = false;
@@ -240,18 +245,29 @@ fn grow(
     Ok(grown)
 }
 
-/// The rows, which are made anew until none of them has more then, or that was done too often. A
-/// rule's left corners mostly have greater numbers, so few times are enough.
-fn grown_rows(alloc: Global, kinds: usize, normal: &Normal) -> Result<Vec<FirstRow>, Memory>
-    requires { kinds ≤ 2 ^ 32 }
+/// So many rows that say nothing.
+fn empty_rows(alloc: Global, count: usize, kinds: usize) -> Result<Vec<FirstRow>, Memory>
+    ensures len { IfOk result (λ rows. length rows.items ≤ count) }
+    ensures cells { IfOk result (λ rows. All (HasCells kinds) rows.items) }
 {
     let mut rows = Vec::new(alloc);
-    for _ in 0..normal.rules().len() {
+    while rows.len() < count {
         rows.push(FirstRow {
             empty: false,
             begins: vec![in alloc; false; kinds]?,
         })?;
     }
+    Ok(rows)
+}
+
+/// The rows, which are made anew until none of them has more then, or that was done too often. A
+/// rule's left corners mostly have greater numbers, so few times are enough.
+fn grown_rows(alloc: Global, kinds: usize, normal: &Normal) -> Result<Vec<FirstRow>, Memory>
+    requires { kinds ≤ 2 ^ 32 }
+    ensures len { IfOk result (λ rows. length rows.items ≤ length normal.now.rules) }
+    ensures cells { IfOk result (λ rows. All (HasCells kinds) rows.items) }
+{
+    let mut rows = empty_rows(alloc, normal.rules().len(), kinds)?;
     for _ in 0..PASSES {
         if !grow(alloc, kinds, normal, &mut rows)? {
             return Ok(rows);
@@ -268,7 +284,8 @@ pub(crate) fn first_rows(
     normal: &Normal,
 ) -> Result<Vec<FirstRow>, Memory>
     requires { kinds ≤ 2 ^ 32 }
-    ensures { IfOk result (λ rows. AreFirsts normal.now rows.items) }
+    ensures firsts { IfOk result (λ rows. AreFirsts normal.now rows.items) }
+    ensures small { IfOk result (λ rows. cells rows.items ≤ 2 ^ 22) }
 {
     if kinds > 0 && size_of(normal) <= CELLS / kinds {
         let rows = grown_rows(alloc, kinds, normal)?;
@@ -322,7 +339,9 @@ pub(crate) fn kinds_in(kinds: &[u32]) -> usize
 }
 
 /// How many symbols the rules have, and how many rules there are.
-fn size_of(normal: &Normal) -> usize {
+fn size_of(normal: &Normal) -> usize
+    ensures { length normal.now.rules ≤ result }
+{
     let mut size: usize = 0;
     for rule in normal.rules() {
         size = size.saturating_add(1);

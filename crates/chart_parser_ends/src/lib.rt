@@ -18,6 +18,7 @@ mod one_question;
 mod optional;
 mod positions;
 mod repetition;
+mod table;
 mod work;
 
 pub use chart::Chart;

@@ -1,10 +1,10 @@
 //! The work on where an optional can end.
 
 ghost use Rattle.std.specs.Prelude.{IfOk};
-ghost use Rattle.chart_parser_ends.specs.inner.Working.{IsOptional, IsStep};
+ghost use Rattle.chart_parser_ends.specs.inner.Working.{IsOptional, IsStep, IsStepOn};
 
-use crate::chart::Chart;
 use crate::positions::add_all;
+use crate::table::ChartTable;
 use crate::work::{RuleEnds, Step, Work};
 use faults::Memory;
 use normal_form::Sym;
@@ -19,18 +19,19 @@ pub(crate) struct Optional {
 
 impl Optional {
     /// It can end where it begins, and where its symbol can end.
-    pub(crate) fn step(self, chart: &Chart<'_>) -> Result<Step, Memory>
-        requires { IsOptional chart.now.normal chart.now.kinds self }
-        ensures { IfOk result (IsStep chart.now.normal chart.now.kinds) }
+    pub(crate) fn step(self, table: &ChartTable<'_>) -> Result<Step, Memory>
+        requires { IsOptional table.now.input.normal table.now.input.kinds self }
+        ensures step { IfOk result (IsStep table.now.input.normal table.now.input.kinds) }
+        ensures same { IfOk result (IsStepOn self.rule self.first) }
     {
         let Optional {
             rule,
             first,
             symbol,
         } = self;
-        match chart.ends_of(symbol, first) {
+        match table.ends_of(symbol, first) {
             Ok(more) => {
-                let mut ends = vec![in chart.alloc(); first]?;
+                let mut ends = vec![in table.alloc(); first]?;
                 add_all(&mut ends, more)?;
                 Ok(Step::Done(RuleEnds { rule, first, ends }))
             }

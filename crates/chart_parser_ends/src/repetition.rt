@@ -4,10 +4,10 @@ ghost use Rattle.std.specs.Prelude.{◌≡◌, ◌+◌, ◌<◌, ℕ, drop, if�
 ghost use Rattle.std.specs.List.{Contains};
 ghost use Rattle.std.specs.List.Sorted.{IsStrictlyIncreasing};
 ghost use Rattle.chart_parser_ends.specs.inner.Moves.{BeginsRepetition, TakesEntry};
-ghost use Rattle.chart_parser_ends.specs.inner.Working.{IsNext, IsRepetition, IsStep};
+ghost use Rattle.chart_parser_ends.specs.inner.Working.{IsNext, IsOnward, IsRepetition, IsStep, IsStepOn};
 
-use crate::chart::Chart;
 use crate::positions::{add_all, has};
+use crate::table::ChartTable;
 use crate::work::{RuleEnds, Step, Work};
 use faults::Memory;
 use normal_form::Sym;
@@ -101,12 +101,14 @@ impl Repetition {
     }
 
     /// Goes on by the symbol from the position.
-    fn with_position(mut self, position: u32, chart: &Chart<'_>) -> Result<Step, Memory>
-        requires work { IsRepetition chart.now.normal chart.now.kinds self }
+    fn with_position(mut self, position: u32, table: &ChartTable<'_>) -> Result<Step, Memory>
+        requires work { IsRepetition table.now.input.normal table.now.input.kinds self }
         requires next { IsNext self.reached.items self.from position }
-        ensures { IfOk result (IsStep chart.now.normal chart.now.kinds) }
+        ensures step { IfOk result (IsStep table.now.input.normal table.now.input.kinds) }
+        ensures same { IfOk result (IsStepOn self.rule self.first) }
+        ensures onward { IfOk result (IsOnward self.from) }
     {
-        match chart.ends_of(self.symbol, position) {
+        match table.ends_of(self.symbol, position) {
             Ok(ends) => {
                 let from = after(position)?;
                 add_all(&mut self.reached, ends)?;
@@ -118,11 +120,13 @@ impl Repetition {
     }
 
     /// Passes over a position that is covered.
-    fn past(mut self, position: u32, chart: &Chart<'_>) -> Result<Step, Memory>
-        requires work { IsRepetition chart.now.normal chart.now.kinds self }
+    fn past(mut self, position: u32, table: &ChartTable<'_>) -> Result<Step, Memory>
+        requires work { IsRepetition table.now.input.normal table.now.input.kinds self }
         requires next { IsNext self.reached.items self.from position }
         requires covered { Contains self.covered.items position }
-        ensures { IfOk result (IsStep chart.now.normal chart.now.kinds) }
+        ensures step { IfOk result (IsStep table.now.input.normal table.now.input.kinds) }
+        ensures same { IfOk result (IsStepOn self.rule self.first) }
+        ensures onward { IfOk result (IsOnward self.from) }
     {
         let from = after(position)?;
         self.from = from;
@@ -130,23 +134,25 @@ impl Repetition {
     }
 
     /// One step of the work.
-    pub(crate) fn step(self, chart: &Chart<'_>) -> Result<Step, Memory>
-        requires { IsRepetition chart.now.normal chart.now.kinds self }
-        ensures { IfOk result (IsStep chart.now.normal chart.now.kinds) }
+    pub(crate) fn step(self, table: &ChartTable<'_>) -> Result<Step, Memory>
+        requires { IsRepetition table.now.input.normal table.now.input.kinds self }
+        ensures step { IfOk result (IsStep table.now.input.normal table.now.input.kinds) }
+        ensures same { IfOk result (IsStepOn self.rule self.first) }
+        ensures onward { IfOk result (IsOnward self.from) }
     {
-        chart.normal().is_normal();
+        table.normal().is_normal();
         let Some(position) = self.next() else {
             return Ok(Step::Done(self.rule_ends()));
         };
         if has(&self.covered, position) {
-            return self.past(position, chart);
+            return self.past(position, table);
         }
-        match chart.ends_of(Sym::Rule(self.rule), position) {
+        match table.ends_of(Sym::Rule(self.rule), position) {
             Ok(ends) => {
                 let repetition = self.with_entry(position, ends)?;
                 Ok(Step::More(Work::Repetition(repetition)))
             }
-            Err(_) => self.with_position(position, chart),
+            Err(_) => self.with_position(position, table),
         }
     }
 }

@@ -1,13 +1,15 @@
 //! The work that fills a chart.
 
-ghost use Rattle.std.specs.Prelude.{◌≡◌, ◌≤◌, length, IfOk, OnOk};
+ghost use Rattle.std.specs.Prelude.{◌≡◌, ◌≤◌, ◌++◌, ◌∷◌, [], length, IfOk, OnOk};
 ghost use Rattle.std.specs.List.{All};
-ghost use Rattle.chart_parser_ends.specs.inner.Working.{IsStep, IsWork};
+ghost use Rattle.chart_parser_ends.specs.inner.Entries.{HasEntry};
+ghost use Rattle.chart_parser_ends.specs.inner.UnderWay.{KeepsUnderWay};
+ghost use Rattle.chart_parser_ends.specs.inner.Working.{IsOn, IsStep, IsStepOn, IsWork, first_of, rule_of};
 
-use crate::chart::Chart;
 use crate::choice::Choice;
 use crate::optional::Optional;
 use crate::repetition::Repetition;
+use crate::table::ChartTable;
 use faults::Memory;
 use normal_form::NormalRule;
 
@@ -39,12 +41,13 @@ pub(crate) enum Step {
 }
 
 /// The work on the rule at the position.
-fn first_work(chart: &Chart<'_>, rule: u32, first: u32) -> Result<Work, Memory>
-    requires { first ≤ length chart.now.kinds }
-    ensures { IfOk result (IsWork chart.now.normal chart.now.kinds) }
+fn first_work(table: &ChartTable<'_>, rule: u32, first: u32) -> Result<Work, Memory>
+    requires { first ≤ length table.now.input.kinds }
+    ensures work { IfOk result (IsWork table.now.input.normal table.now.input.kinds) }
+    ensures on { IfOk result (IsOn rule first) }
 {
-    let alloc = chart.alloc();
-    let rules = chart.normal().rules();
+    let alloc = table.alloc();
+    let rules = table.normal().rules();
     if rule as usize >= rules.len() {
         return Ok(Work::Choice(Choice::new(alloc, rule, first)?));
     }
@@ -65,47 +68,55 @@ fn first_work(chart: &Chart<'_>, rule: u32, first: u32) -> Result<Work, Memory>
 }
 
 /// The next step of the work.
-fn step_of(work: Work, chart: &Chart<'_>) -> Result<Step, Memory>
-    requires { IsWork chart.now.normal chart.now.kinds work }
-    ensures { IfOk result (IsStep chart.now.normal chart.now.kinds) }
+fn step_of(work: Work, table: &ChartTable<'_>) -> Result<Step, Memory>
+    requires { IsWork table.now.input.normal table.now.input.kinds work }
+    ensures step { IfOk result (IsStep table.now.input.normal table.now.input.kinds) }
+    ensures same { IfOk result (IsStepOn (rule_of work) (first_of work)) }
 {
     match work {
-        Work::Choice(choice) => choice.step(chart),
-        Work::Optional(optional) => optional.step(chart),
-        Work::Repetition(repetition) => repetition.step(chart),
+        Work::Choice(choice) => choice.step(table),
+        Work::Optional(optional) => optional.step(table),
+        Work::Repetition(repetition) => repetition.step(table),
     }
 }
 
-/// One step of the work that was on top of the stack.
-fn go_on(chart: &mut Chart<'_>, work: Work, stack: &mut Vec<Work>) -> Result<(), Memory>
-    requires work { IsWork chart.old.normal chart.old.kinds work }
-    requires stack { All (IsWork chart.old.normal chart.old.kinds) stack.old.items }
-    ensures same { chart.new ≡ chart.old }
-    ensures stack { OnOk result (All (IsWork chart.old.normal chart.old.kinds) stack.new.items) }
+/// One step of the work that was on top of the stack. What is worked on stays on the stack until its
+/// entry is there.
+fn go_on(table: &mut ChartTable<'_>, work: Work, stack: &mut Vec<Work>) -> Result<(), Memory>
+    requires work { IsWork table.old.input.normal table.old.input.kinds work }
+    requires stack { All (IsWork table.old.input.normal table.old.input.kinds) stack.old.items }
+    ensures same { table.new.input ≡ table.old.input }
+    ensures stack { OnOk result (All (IsWork table.old.input.normal table.old.input.kinds) stack.new.items) }
+    ensures kept { OnOk result (KeepsUnderWay table.old.entries (stack.old.items ++ work ∷ []) table.new.entries stack.new.items) }
 {
-    match step_of(work, chart)? {
-        Step::Done(found) => chart.store(found)?,
+    match step_of(work, table)? {
+        Step::Done(found) => table.store(found)?,
         Step::More(work) => stack.push(work)?,
         Step::Needs(work, rule, first) => {
             stack.push(work)?;
-            stack.push(first_work(chart, rule, first)?)?;
+            stack.push(first_work(table, rule, first)?)?;
         }
     }
     Ok(())
 }
 
 /// Works out where the rule can end that begins at the position, and all that this needs.
-pub(crate) fn work_out(chart: &mut Chart<'_>, rule: u32, first: u32) -> Result<(), Memory>
-    requires { first ≤ length chart.old.kinds }
-    ensures { chart.new ≡ chart.old }
+///
+/// The loop's count only shows that the loop ends, and is never used up: a work needs another rule at
+/// its own position only along left corners, which lead to no rule twice, and else at a later position.
+/// So each rule is worked on at most once at each position, and a work has finitely many steps.
+pub(crate) fn work_out(table: &mut ChartTable<'_>, rule: u32, first: u32) -> Result<(), Memory>
+    requires { first ≤ length table.old.input.kinds }
+    ensures same { table.new.input ≡ table.old.input }
+    ensures there { OnOk result (HasEntry table.new.entries rule first) }
 {
-    let mut stack = Vec::new(chart.alloc());
-    stack.push(first_work(chart, rule, first)?)?;
+    let mut stack = Vec::new(table.alloc());
+    stack.push(first_work(table, rule, first)?)?;
     for _ in 0..u64::MAX {
         let Some(work) = stack.pop() else {
             return Ok(());
         };
-        go_on(chart, work, &mut stack)?;
+        go_on(table, work, &mut stack)?;
     }
     Err(Memory)
 }

@@ -1,6 +1,6 @@
 -- What is known of how the rules of a normal form begin. It may be too much, and is never too little.
-use Rattle.std.specs.Prelude.{◌≡◌, ◌⊎◌, ℕ, ◌<◌, true, List, [], ◌∷◌, length, Some, slice_get, slice_index_or}
-use Rattle.std.specs.List.{Contains}
+use Rattle.std.specs.Prelude.{◌≡◌, ◌⊎◌, ℕ, ◌<◌, ◌≤◌, true, List, [], ◌∷◌, length, Some, slice_get, slice_index_or, vec_len}
+use Rattle.std.specs.List.{Contains, sum_by}
 use Rattle.normal_form.specs.declared.normal.Sym.{Sym}
 use Rattle.normal_form.specs.declared.normal.Sym.TheVariants.{Kind, Set, Rule}
 use Rattle.normal_form.specs.Form.{RuleForm, NormalForm}
@@ -11,6 +11,14 @@ use Rattle.chart_parser_ends.specs.inner.Exact.{IsTokenOf}
 -- The row has the kind, or the kind is past its kinds.
 abbrev pub HasKind : FirstRow → ℕ → Type 0
 HasKind row k = slice_index_or row.begins.items k true ≡ true
+
+-- The row has cells for so many kinds, at most.
+abbrev pub HasCells : ℕ → FirstRow → Type 0
+HasCells kinds row = vec_len row.begins ≤ kinds
+
+-- how many cells the rows have in all
+abbrev pub cells : List FirstRow → ℕ
+cells rows = sum_by (λ row. vec_len row.begins) rows
 
 -- The symbol may derive the empty list, as far as these rows say.
 abbrev pub MayBeEmpty : List FirstRow → Sym → Type 0

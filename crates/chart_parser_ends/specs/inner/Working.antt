@@ -78,6 +78,22 @@ IsWork N kinds (W.Choice w) = IsChoice N kinds w
 IsWork N kinds (W.Optional w) = IsOptional N kinds w
 IsWork N kinds (W.Repetition w) = IsRepetition N kinds w
 
+-- the rule and the position of the work
+abbrev pub rule_of : Work → ℕ
+rule_of (W.Choice w) = w.rule
+rule_of (W.Optional w) = w.rule
+rule_of (W.Repetition w) = w.rule
+
+abbrev pub first_of : Work → ℕ
+first_of (W.Choice w) = w.first
+first_of (W.Optional w) = w.first
+first_of (W.Repetition w) = w.first
+
+-- The work is on the rule at the position `first`.
+pub record IsOn (rule first : ℕ) (w : Work) : Type 0 where
+  pub rule_is : rule_of w ≡ rule
+  pub first_is : first_of w ≡ first
+
 -- It has exactly the positions where its rule can end.
 abbrev pub HasRuleEnds : NormalForm → List ℕ → RuleEnds → Type 0
 HasRuleEnds N kinds e = HasExactly (DerivesSpan N kinds (Rule e.rule) e.first) e.ends.items
@@ -86,3 +102,17 @@ abbrev pub IsStep : NormalForm → List ℕ → Step → Type 0
 IsStep N kinds (Done e) = HasRuleEnds N kinds e
 IsStep N kinds (More w) = IsWork N kinds w
 IsStep N kinds (Needs w rule first) = IsWork N kinds w × (first ≤ length kinds)
+
+-- The step is one of the work on the rule at the position `first`.
+abbrev pub IsStepOn : ℕ → ℕ → Step → Type 0
+IsStepOn rule first (Done e) = (e.rule ≡ rule) × (e.first ≡ first)
+IsStepOn rule first (More w) = IsOn rule first w
+IsStepOn rule first (Needs w _ _) = IsOn rule first w
+
+-- The repetition has gone on past the position `from`, or waits at it: it never begins anew.
+abbrev pub IsOnward : ℕ → Step → Type 0
+IsOnward from (Done e) = Unit {0}
+IsOnward from (More (W.Repetition w)) = from < w.from
+IsOnward from (More _) = ⊥
+IsOnward from (Needs (W.Repetition w) _ _) = from ≤ w.from
+IsOnward from (Needs _ _ _) = ⊥

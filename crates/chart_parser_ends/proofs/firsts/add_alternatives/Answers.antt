@@ -16,8 +16,8 @@ loop-symbols-preserved c =
           covers c.loop-symbols.invariant.1,
     )
 
-pub returns : goal.returns
-returns c =
+pub returns-clause-covers : goal.returns-clause-covers
+returns-clause-covers c =
     let alts = c.args.alternatives.now in
     covers_all c.args.normal.now c.args.rows.now alts c.loop-symbols.symbols-index c.loop-symbols.row
     (omega (arith, c.loop-symbols-test.false, length-map alts (λ alt. alt.items))) c.loop-symbols.invariant.1

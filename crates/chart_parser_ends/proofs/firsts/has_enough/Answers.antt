@@ -11,4 +11,4 @@ returns c enough row at =
     let there = item_some c.args.rows.now c.args.number c.in-Some.row c.get.result c.in-Some.is c.get.ensures.lookup in
     let same : c.in-Some.row.now ≡ row = same_row c.in-Some.row.now row (sym there ∙ at) in
     covers_within c.args.normal.now c.args.rows.now (rule_form c.args.rule.now) wanted row
-    (subst (Keeps wanted) same (c.is_within.ensures enough)) c.in_ok-wanted.ensures
+    (subst (Keeps wanted) same (c.is_within.ensures enough)) c.in_ok-wanted.ensures.covers

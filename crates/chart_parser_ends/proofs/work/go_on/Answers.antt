@@ -1,14 +1,34 @@
-use Rattle.std.proofs.Common.{subst, sym}
+use Rattle.std.proofs.Common.{List, subst, sym}
 use Rattle.std.proofs.lemmas.List.Elements.{All-push}
 use Rattle.std.specs.List.{All}
-use Rattle.chart_parser_ends.specs.inner.Working.{IsStep, IsWork}
+use Rattle.chart_parser_ends.specs.declared.work.Work.{Work}
+use Rattle.chart_parser_ends.specs.inner.Working.{IsStep, IsStepOn, IsWork, first_of, rule_of}
+use Rattle.chart_parser_ends.proofs.Going.{goes_on, stored, waits}
 use Rattle.chart_parser_ends.proofs.work.go_on.Goals as goal
 
 pub returns-in_ok-push-in-Needs-2-clause-stack : goal.returns-in_ok-push-in-Needs-2-clause-stack
 returns-in_ok-push-in-Needs-2-clause-stack c =
-    let P = IsWork c.args.chart.now.normal c.args.chart.now.kinds in
-    let needs = subst (IsStep c.args.chart.now.normal c.args.chart.now.kinds) c.in-Needs.is c.in_ok-found.ensures in
-    subst (All P) (sym c.in_ok-push-in-Needs-2.ensures.items)
+    let P = IsWork c.args.table.now.input.normal c.args.table.now.input.kinds in
+    let needs = subst (IsStep c.args.table.now.input.normal c.args.table.now.input.kinds) c.in-Needs.is c.in_ok-found.ensures.step in
+    subst (All P) (sym {A = List Work} c.in_ok-push-in-Needs-2.ensures.items)
     (All-push P c.push-in-Needs.new.self.items c.in_ok-first_work-in-Needs.field-0
-    (subst (All P) (sym c.in_ok-push-in-Needs.ensures.items) (All-push P c.args.stack.now.items c.in-Needs.work c.requires.stack needs.0))
-    c.in_ok-first_work-in-Needs.ensures)
+    (subst (All P) (sym {A = List Work} c.in_ok-push-in-Needs.ensures.items) (All-push P c.args.stack.now.items c.in-Needs.work c.requires.stack needs.0))
+    c.in_ok-first_work-in-Needs.ensures.work)
+
+pub returns-in_ok-store-in-Done-clause-kept : goal.returns-in_ok-store-in-Done-clause-kept
+returns-in_ok-store-in-Done-clause-kept c =
+    let found = c.in-Done.found in
+    let is = subst (IsStepOn (rule_of c.args.work) (first_of c.args.work)) c.in-Done.is c.in_ok-found.ensures.same in
+    stored c.args.table.now.entries c.store.new.self.entries c.args.stack.now.items c.args.work found.rule found.first found.ends.items is.0 is.1
+    c.in_ok-store-in-Done.ensures.ok
+
+pub returns-in_ok-push-in-More-clause-kept : goal.returns-in_ok-push-in-More-clause-kept
+returns-in_ok-push-in-More-clause-kept c =
+    goes_on c.args.table.now.entries c.args.stack.now.items c.push.new.self.items c.args.work c.in-More.work c.in_ok-push-in-More.ensures.items
+    (subst (IsStepOn (rule_of c.args.work) (first_of c.args.work)) c.in-More.is c.in_ok-found.ensures.same)
+
+pub returns-in_ok-push-in-Needs-2-clause-kept : goal.returns-in_ok-push-in-Needs-2-clause-kept
+returns-in_ok-push-in-Needs-2-clause-kept c =
+    waits c.args.table.now.entries c.args.stack.now.items c.push-in-Needs.new.self.items c.push-in-Needs-2.new.self.items c.args.work c.in-Needs.work
+    c.in_ok-first_work-in-Needs.field-0 c.in_ok-push-in-Needs.ensures.items c.in_ok-push-in-Needs-2.ensures.items
+    (subst (IsStepOn (rule_of c.args.work) (first_of c.args.work)) c.in-Needs.is c.in_ok-found.ensures.same)
