@@ -3,12 +3,12 @@
 ghost use Rattle.std.specs.Prelude.{◌+◌, ◌<◌, ◌≡◌, ◌^◌, [], length, IfOk, IfSome, OnOk};
 ghost use Rattle.std.specs.List.Sorted.{IsStrictlyIncreasing};
 ghost use Rattle.std.specs.Option.{option_map};
-ghost use Rattle.chart_parser_ends.specs.inner.Moves.{Begins, FindsAlternative, HasNextAlternative, HasNextSymbol, IsNextSymbol};
+ghost use Rattle.chart_parser_ends.specs.inner.Moves.{Begins, FindsAlternative, HasNextAlternative, HasNextSymbol, IsChoiceProgress, IsNextSymbol};
 ghost use Rattle.chart_parser_ends.specs.inner.Working.{IsChoice, IsStep, IsStepOn};
 
 use crate::positions::add_all;
 use crate::table::ChartTable;
-use crate::work::{RuleEnds, Step, Work};
+use crate::work::{Progress, RuleEnds, STEPS, Step, Work};
 use faults::Memory;
 use normal_form::{Normal, NormalRule, Sym};
 use std::alloc::Global;
@@ -97,49 +97,78 @@ impl Choice {
     }
 
     /// Goes on by the symbol from the next position.
-    fn next_position(mut self, symbol: Sym, table: &ChartTable<'_>) -> Result<Step, Memory>
-        requires work { IsChoice table.now.input.normal table.now.input.kinds self }
-        requires next { IsNextSymbol table.now.input.normal self symbol }
-        requires more { self.done < length self.current.items }
-        ensures step { IfOk result (IsStep table.now.input.normal table.now.input.kinds) }
-        ensures same { IfOk result (IsStepOn self.rule self.first) }
+    fn next_position(&mut self, symbol: Sym, table: &ChartTable<'_>) -> Result<Progress, Memory>
+        requires work { IsChoice table.now.input.normal table.now.input.kinds self.old }
+        requires next { IsNextSymbol table.now.input.normal self.old symbol }
+        requires more { self.old.done < length self.old.current.items }
+        ensures progress { IfOk result (IsChoiceProgress table.now.input.normal table.now.input.kinds self.new) }
+        ensures rule { OnOk result (self.new.rule ≡ self.old.rule) }
+        ensures first { OnOk result (self.new.first ≡ self.old.first) }
     {
         let position = self.current[self.done];
         match table.ends_of(symbol, position) {
             Ok(more) => {
                 add_all(&mut self.next, more)?;
                 self.done += 1;
-                Ok(Step::More(Work::Choice(self)))
+                Ok(Progress::More)
             }
-            Err(missing) => Ok(Step::Needs(Work::Choice(self), missing, position)),
+            Err(missing) => Ok(Progress::Needs(missing, position)),
         }
     }
 
     /// One step of the work.
+    fn advance(&mut self, table: &ChartTable<'_>) -> Result<Progress, Memory>
+        requires { IsChoice table.now.input.normal table.now.input.kinds self.old }
+        ensures progress { IfOk result (IsChoiceProgress table.now.input.normal table.now.input.kinds self.new) }
+        ensures rule { OnOk result (self.new.rule ≡ self.old.rule) }
+        ensures first { OnOk result (self.new.first ≡ self.old.first) }
+    {
+        let Some(symbols) = alternative(table.normal(), self.rule, self.alternative) else {
+            return Ok(Progress::Done);
+        };
+        let reached = self.current.len();
+        if self.symbol >= symbols.len() || reached == 0 {
+            self.next_alternative()?;
+            return Ok(Progress::More);
+        }
+        if self.done >= reached {
+            self.next_symbol();
+            return Ok(Progress::More);
+        }
+        let symbol = symbols[self.symbol];
+        self.next_position(symbol, table)
+    }
+
+    /// What was worked for, where it is found.
+    fn rule_ends(self) -> RuleEnds
+        ensures rule { result.rule ≡ self.rule }
+        ensures first { result.first ≡ self.first }
+        ensures ends { result.ends.items ≡ self.ends.items }
+    {
+        let Choice {
+            rule,
+            first,
+            ends,
+            ..
+        } = self;
+        RuleEnds { rule, first, ends }
+    }
+
+    /// Some steps of the work.
     pub(crate) fn step(mut self, table: &ChartTable<'_>) -> Result<Step, Memory>
         requires { IsChoice table.now.input.normal table.now.input.kinds self }
         ensures step { IfOk result (IsStep table.now.input.normal table.now.input.kinds) }
         ensures same { IfOk result (IsStepOn self.rule self.first) }
     {
-        let Some(symbols) = alternative(table.normal(), self.rule, self.alternative) else {
-            let Choice {
-                rule,
-                first,
-                ends,
-                ..
-            } = self;
-            return Ok(Step::Done(RuleEnds { rule, first, ends }));
-        };
-        let reached = self.current.len();
-        if self.symbol >= symbols.len() || reached == 0 {
-            self.next_alternative()?;
-            return Ok(Step::More(Work::Choice(self)));
+        for _ in 0..STEPS {
+            match self.advance(table)? {
+                Progress::More => {}
+                Progress::Done => return Ok(Step::Done(self.rule_ends())),
+                Progress::Needs(rule, position) => {
+                    return Ok(Step::Needs(Work::Choice(self), rule, position));
+                }
+            }
         }
-        if self.done >= reached {
-            self.next_symbol();
-            return Ok(Step::More(Work::Choice(self)));
-        }
-        let symbol = symbols[self.symbol];
-        self.next_position(symbol, table)
+        Ok(Step::More(Work::Choice(self)))
     }
 }

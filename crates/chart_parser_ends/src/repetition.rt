@@ -1,14 +1,14 @@
 //! The work on where a star or plus can end.
 
-ghost use Rattle.std.specs.Prelude.{◌≡◌, ◌+◌, ◌<◌, ℕ, drop, if◌then◌else◌, length, IfOk, MatchOption};
+ghost use Rattle.std.specs.Prelude.{◌≡◌, ◌+◌, ◌<◌, ℕ, drop, if◌then◌else◌, length, IfOk, MatchOption, OnOk};
 ghost use Rattle.std.specs.List.{Contains};
 ghost use Rattle.std.specs.List.Sorted.{IsStrictlyIncreasing};
-ghost use Rattle.chart_parser_ends.specs.inner.Moves.{BeginsRepetition, TakesEntry};
+ghost use Rattle.chart_parser_ends.specs.inner.Moves.{BeginsRepetition, IsOnwardTo, IsRepetitionProgress, TakesEntry};
 ghost use Rattle.chart_parser_ends.specs.inner.Working.{IsNext, IsOnward, IsRepetition, IsStep, IsStepOn};
 
 use crate::positions::{add_all, has};
 use crate::table::ChartTable;
-use crate::work::{RuleEnds, Step, Work};
+use crate::work::{Progress, RuleEnds, STEPS, Step, Work};
 use faults::Memory;
 use normal_form::Sym;
 use std::alloc::Global;
@@ -88,72 +88,94 @@ impl Repetition {
     }
 
     /// All that the same rule reaches from the position, which is all that the symbol goes on to.
-    fn with_entry(mut self, position: u32, ends: &[u32]) -> Result<Repetition, Memory>
-        requires rising { IsStrictlyIncreasing self.reached.items }
-        requires rising_covered { IsStrictlyIncreasing self.covered.items }
-        ensures { IfOk result (TakesEntry self position ends.now) }
+    fn with_entry(&mut self, position: u32, ends: &[u32]) -> Result<(), Memory>
+        requires rising { IsStrictlyIncreasing self.old.reached.items }
+        requires rising_covered { IsStrictlyIncreasing self.old.covered.items }
+        ensures { OnOk result (TakesEntry self.old position ends.now self.new) }
     {
         let from = after(position)?;
         add_all(&mut self.reached, ends)?;
         add_all(&mut self.covered, ends)?;
         self.from = from;
-        Ok(self)
+        Ok(())
     }
 
     /// Goes on by the symbol from the position.
-    fn with_position(mut self, position: u32, table: &ChartTable<'_>) -> Result<Step, Memory>
-        requires work { IsRepetition table.now.input.normal table.now.input.kinds self }
-        requires next { IsNext self.reached.items self.from position }
-        ensures step { IfOk result (IsStep table.now.input.normal table.now.input.kinds) }
-        ensures same { IfOk result (IsStepOn self.rule self.first) }
-        ensures onward { IfOk result (IsOnward self.from) }
+    fn with_position(&mut self, position: u32, table: &ChartTable<'_>) -> Result<Progress, Memory>
+        requires work { IsRepetition table.now.input.normal table.now.input.kinds self.old }
+        requires next { IsNext self.old.reached.items self.old.from position }
+        ensures progress { IfOk result (IsRepetitionProgress table.now.input.normal table.now.input.kinds self.new) }
+        ensures rule { OnOk result (self.new.rule ≡ self.old.rule) }
+        ensures first { OnOk result (self.new.first ≡ self.old.first) }
+        ensures onward { IfOk result (IsOnwardTo self.old.from self.new.from) }
     {
         match table.ends_of(self.symbol, position) {
             Ok(ends) => {
                 let from = after(position)?;
                 add_all(&mut self.reached, ends)?;
                 self.from = from;
-                Ok(Step::More(Work::Repetition(self)))
+                Ok(Progress::More)
             }
-            Err(missing) => Ok(Step::Needs(Work::Repetition(self), missing, position)),
+            Err(missing) => Ok(Progress::Needs(missing, position)),
         }
     }
 
     /// Passes over a position that is covered.
-    fn past(mut self, position: u32, table: &ChartTable<'_>) -> Result<Step, Memory>
-        requires work { IsRepetition table.now.input.normal table.now.input.kinds self }
-        requires next { IsNext self.reached.items self.from position }
-        requires covered { Contains self.covered.items position }
-        ensures step { IfOk result (IsStep table.now.input.normal table.now.input.kinds) }
-        ensures same { IfOk result (IsStepOn self.rule self.first) }
-        ensures onward { IfOk result (IsOnward self.from) }
+    fn past(&mut self, position: u32, table: &ChartTable<'_>) -> Result<Progress, Memory>
+        requires work { IsRepetition table.now.input.normal table.now.input.kinds self.old }
+        requires next { IsNext self.old.reached.items self.old.from position }
+        requires covered { Contains self.old.covered.items position }
+        ensures progress { IfOk result (IsRepetitionProgress table.now.input.normal table.now.input.kinds self.new) }
+        ensures rule { OnOk result (self.new.rule ≡ self.old.rule) }
+        ensures first { OnOk result (self.new.first ≡ self.old.first) }
+        ensures onward { IfOk result (IsOnwardTo self.old.from self.new.from) }
     {
         let from = after(position)?;
         self.from = from;
-        Ok(Step::More(Work::Repetition(self)))
+        Ok(Progress::More)
     }
 
     /// One step of the work.
-    pub(crate) fn step(self, table: &ChartTable<'_>) -> Result<Step, Memory>
-        requires { IsRepetition table.now.input.normal table.now.input.kinds self }
-        ensures step { IfOk result (IsStep table.now.input.normal table.now.input.kinds) }
-        ensures same { IfOk result (IsStepOn self.rule self.first) }
-        ensures onward { IfOk result (IsOnward self.from) }
+    fn advance(&mut self, table: &ChartTable<'_>) -> Result<Progress, Memory>
+        requires { IsRepetition table.now.input.normal table.now.input.kinds self.old }
+        ensures progress { IfOk result (IsRepetitionProgress table.now.input.normal table.now.input.kinds self.new) }
+        ensures rule { OnOk result (self.new.rule ≡ self.old.rule) }
+        ensures first { OnOk result (self.new.first ≡ self.old.first) }
+        ensures onward { IfOk result (IsOnwardTo self.old.from self.new.from) }
     {
-        table.normal().is_normal();
         let Some(position) = self.next() else {
-            return Ok(Step::Done(self.rule_ends()));
+            return Ok(Progress::Done);
         };
         if has(&self.covered, position) {
             return self.past(position, table);
         }
         match table.ends_of(Sym::Rule(self.rule), position) {
             Ok(ends) => {
-                let repetition = self.with_entry(position, ends)?;
-                Ok(Step::More(Work::Repetition(repetition)))
+                self.with_entry(position, ends)?;
+                Ok(Progress::More)
             }
             Err(_) => self.with_position(position, table),
         }
+    }
+
+    /// Some steps of the work.
+    pub(crate) fn step(mut self, table: &ChartTable<'_>) -> Result<Step, Memory>
+        requires { IsRepetition table.now.input.normal table.now.input.kinds self }
+        ensures step { IfOk result (IsStep table.now.input.normal table.now.input.kinds) }
+        ensures same { IfOk result (IsStepOn self.rule self.first) }
+        ensures onward { IfOk result (IsOnward self.from) }
+    {
+        table.normal().is_normal();
+        for _made in 0..STEPS {
+            match self.advance(table)? {
+                Progress::More => {}
+                Progress::Done => return Ok(Step::Done(self.rule_ends())),
+                Progress::Needs(rule, position) => {
+                    return Ok(Step::Needs(Work::Repetition(self), rule, position));
+                }
+            }
+        }
+        Ok(Step::More(Work::Repetition(self)))
     }
 }
 

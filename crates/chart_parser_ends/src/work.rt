@@ -13,6 +13,9 @@ use crate::table::ChartTable;
 use faults::Memory;
 use normal_form::NormalRule;
 
+/// How many steps in place a work makes at most before it is put back on the stack.
+pub(crate) const STEPS: u32 = 1024;
+
 /// All positions where a rule that begins at the position `first` can end, rising.
 #[derive(Drop)]
 pub(crate) struct RuleEnds {
@@ -29,7 +32,18 @@ pub(crate) enum Work {
     Repetition(Repetition),
 }
 
-/// What a step of the work comes to.
+/// What a step in place comes to.
+#[derive(Clone, Copy)]
+pub(crate) enum Progress {
+    /// All that was worked for is found.
+    Done,
+    /// There is more to do.
+    More,
+    /// The work first needs where this rule can end that begins at this position.
+    Needs(u32, u32),
+}
+
+/// What some steps of the work come to.
 #[derive(Drop)]
 pub(crate) enum Step {
     /// All that was worked for.
@@ -67,7 +81,7 @@ fn first_work(table: &ChartTable<'_>, rule: u32, first: u32) -> Result<Work, Mem
     }
 }
 
-/// The next step of the work.
+/// The next steps of the work.
 fn step_of(work: Work, table: &ChartTable<'_>) -> Result<Step, Memory>
     requires { IsWork table.now.input.normal table.now.input.kinds work }
     ensures step { IfOk result (IsStep table.now.input.normal table.now.input.kinds) }
@@ -80,7 +94,7 @@ fn step_of(work: Work, table: &ChartTable<'_>) -> Result<Step, Memory>
     }
 }
 
-/// One step of the work that was on top of the stack. What is worked on stays on the stack until its
+/// Some steps of the work that was on top of the stack. What is worked on stays on the stack until its
 /// entry is there.
 fn go_on(table: &mut ChartTable<'_>, work: Work, stack: &mut Vec<Work>) -> Result<(), Memory>
     requires work { IsWork table.old.input.normal table.old.input.kinds work }

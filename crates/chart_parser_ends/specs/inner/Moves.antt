@@ -1,13 +1,17 @@
--- How the work on an alternative goes on.
-use Rattle.std.specs.Prelude.{◌≡◌, ℕ, ◌+◌, Bool, List, [], ◌∷◌, Option, slice_get}
+-- How the work on a rule goes on.
+use Rattle.std.specs.Prelude.{◌≡◌, ℕ, ◌+◌, ◌<◌, ◌≤◌, Bool, List, [], ◌∷◌, length, Option, slice_get}
 use Rattle.std.specs.List.{Contains}
 use Rattle.std.specs.List.Sorted.{IsStrictlyIncreasing}
 use Rattle.normal_form.specs.declared.normal.Sym.{Sym}
+use Rattle.normal_form.specs.declared.normal.Sym.TheVariants.{Rule}
 use Rattle.normal_form.specs.Form.{NormalForm}
+use Rattle.normal_form_spans.specs.Spans.{DerivesSpan}
 use Rattle.chart_parser_ends.specs.declared.choice.Choice.{Choice}
 use Rattle.chart_parser_ends.specs.declared.repetition.Repetition.{Repetition}
-use Rattle.chart_parser_ends.specs.Positions.{HasAll, IsGrown}
-use Rattle.chart_parser_ends.specs.inner.Working.{HasAlternatives, alternative_at, symbol_at}
+use Rattle.chart_parser_ends.specs.declared.work.Progress.{Progress}
+use Rattle.chart_parser_ends.specs.declared.work.Progress.TheVariants.{Done, More, Needs}
+use Rattle.chart_parser_ends.specs.Positions.{HasAll, HasExactly, IsGrown}
+use Rattle.chart_parser_ends.specs.inner.Working.{HasAlternatives, IsChoice, IsRepetition, alternative_at, symbol_at}
 
 -- It is the alternative with this number, of the rule's alternatives.
 abbrev pub FindsAlternative : NormalForm → ℕ → ℕ → Option (List Sym) → Type 0
@@ -67,3 +71,21 @@ pub record TakesEntry (old : Repetition) (position : ℕ) (ends : List ℕ) (new
   pub all : HasAll (Contains ends) new.reached.items
   pub rising_covered : IsStrictlyIncreasing new.covered.items
   pub grown_covered : IsGrown (Contains ends) old.covered.items new.covered.items
+
+-- What a step in place of the work on a rule with alternatives comes to.
+abbrev pub IsChoiceProgress : NormalForm → List ℕ → Choice → Progress → Type 0
+IsChoiceProgress N kinds w Done = HasExactly (DerivesSpan N kinds (Rule w.rule) w.first) w.ends.items
+IsChoiceProgress N kinds w More = IsChoice N kinds w
+IsChoiceProgress N kinds w (Needs rule first) = IsChoice N kinds w × (first ≤ length kinds)
+
+-- What a step in place of the work on a star or plus comes to.
+abbrev pub IsRepetitionProgress : NormalForm → List ℕ → Repetition → Progress → Type 0
+IsRepetitionProgress N kinds w Done = IsRepetition N kinds w × ((x : ℕ) → Contains w.reached.items x → x < w.from)
+IsRepetitionProgress N kinds w More = IsRepetition N kinds w
+IsRepetitionProgress N kinds w (Needs rule first) = IsRepetition N kinds w × (first ≤ length kinds)
+
+-- The repetition has gone on past the position `from`, or waits at it, and is at `to`: it never begins anew.
+abbrev pub IsOnwardTo : ℕ → ℕ → Progress → Type 0
+IsOnwardTo from to Done = from ≤ to
+IsOnwardTo from to More = from < to
+IsOnwardTo from to (Needs rule first) = from ≤ to
