@@ -8,6 +8,10 @@ use std::io::Read;
 use std::marker::Model;
 use std::{fs, io};
 
+/// Of a longer file no copy is kept: grammars, inputs and results have at most so many bytes, and a journal
+/// may have a thousand times as many.
+const MOST_KEPT: usize = 1_048_576;
+
 /// A file that was read: its name, and its bytes.
 #[derive(Drop)]
 struct FirstRead {
@@ -52,7 +56,8 @@ impl<R: std::rt::Files> DiskFiles<R> {
         self.reason
     }
 
-    /// What was read of this name first. None where nothing was, or memory ran out for a copy of it.
+    /// The first of what was read of this name and has at most 1,048,576 bytes. None where there was none, or
+    /// memory ran out for a copy of it.
     pub fn first_read(&self, name: &str) -> Option<&[u8]> {
         let read = self.reads.iter().find(|read| read.name.as_str() == name)?;
         Some(read.bytes.as_slice())
@@ -102,7 +107,9 @@ impl<R: std::rt::Files> Files for DiskFiles<R> {
         match read_start(&self.rt, self.alloc, name, limit.saturating_add(1)) {
             Ok(bytes) if bytes.len() as u64 > limit => Err(FileFault::TooLong),
             Ok(bytes) => {
-                let _ = keep_read(&mut self.reads, self.alloc, name, bytes.as_slice());
+                if bytes.len() <= MOST_KEPT {
+                    let _ = keep_read(&mut self.reads, self.alloc, name, bytes.as_slice());
+                }
                 Ok(bytes)
             }
             Err(error) if keep_failure(&mut self.faults, &mut self.reason, error) => {

@@ -201,3 +201,18 @@ fn the_machine_keeps_the_last_reason_and_what_was_read_first(rt: HostRuntime) ->
     assert!(rt; files.first_read("reasons/missing").is_none());
     Ok(())
 }
+
+#[test]
+fn the_machine_keeps_no_long_file(rt: HostRuntime) -> Result<(), Fail> {
+    fs::create_dir_all(&rt, "long")?;
+    let alloc = rt.alloc();
+    let bytes = vec![in alloc; b'x'; 1_048_577]?;
+    let mut files = DiskFiles::new(rt.clone()?, alloc);
+    let is_written = files.write("long/file", bytes.as_slice()).is_ok();
+    let read = files.read("long/file", 2_000_000);
+    fs::remove_dir_all(&rt, "long")?;
+    assert!(rt; is_written);
+    assert!(rt; read.is_ok_and(|found| found.len() == 1_048_577));
+    assert!(rt; files.first_read("long/file").is_none());
+    Ok(())
+}
