@@ -41,7 +41,7 @@ fn add_bytes(shown: &mut String, alloc: Global, bytes: &[u8]) -> Result<()> {
 /// The events that the journal has, and the length of a torn tail, which is all of a journal without a
 /// whole head.
 fn events_of(alloc: Global, journal: &MemSink) -> Result<(Vec<Event>, u64)> {
-    match read_journal(alloc, journal.bytes()) {
+    match read_journal(alloc, &Bytes::from_slice(alloc, journal.bytes())?) {
         Ok(read) => Ok((read.events, read.torn)),
         Err(JournalFault::BadHead) => Ok((Vec::new(alloc), journal.bytes().len() as u64)),
         Err(fault) => bail!("the journal can't be read: {fault}"),

@@ -133,7 +133,8 @@ pub(crate) fn read_run<F: Files>(
         (seen F.content F.faults files.old) (seen F.content F.faults files.new) refusal) }
 {
     let output = read_file(files, line.output, RESULT_LIMIT, NamedFile::Result)?;
-    let bytes = read_file(files, line.journal, JOURNAL_LIMIT, NamedFile::Journal)?;
+    let read = read_file(files, line.journal, JOURNAL_LIMIT, NamedFile::Journal)?;
+    let bytes = Bytes::from_vec(read)?;
     match read_journal(alloc, &bytes) {
         Ok(journal) => Ok(Run { output, journal }),
         Err(fault) => Err(Refusal::of_journal(alloc, fault)),

@@ -1,6 +1,6 @@
 //! The journal that is resumed.
 
-ghost use Rattle.std.specs.Prelude.{◌≡◌, [], IfErr, IfOk, IfSome, MatchOption, OnOk, option_map};
+ghost use Rattle.std.specs.Prelude.{◌≡◌, IfErr, IfOk, IfSome, MatchOption, OnOk, option_map};
 ghost use Rattle.edge_io.specs.Files.{SameFiles};
 ghost use Rattle.reduce_journal.specs.History.{records_of};
 ghost use Rattle.command_ends.specs.World.{IsQuiet, seen};
@@ -10,11 +10,13 @@ ghost use Rattle.command_reduce.specs.inner.Resume.{KeptFails, ResumeRefused};
 use command_ends::{JOURNAL_LIMIT, NamedFile, Refusal, read_file};
 use edge_io::Files;
 use reduce_journal::{Digest, Journal, read_journal};
+use script_gate_trait::Bytes;
 use std::alloc::Global;
 use verdict_table::Kept;
 
 /// The verdicts that are kept: those of the journal that is named, where it is one of this start; none
-/// where no journal is named. A torn tail is passed over.
+/// where no journal is named. A torn tail is passed over. The file's bytes stay in memory, which the texts
+/// share; beside them it takes the list of the events, until the texts are kept, and an index of them.
 pub(crate) fn read_kept<F: Files>(
     alloc: Global,
     files: &mut F,
@@ -30,7 +32,8 @@ pub(crate) fn read_kept<F: Files>(
     let Some(path) = path else {
         return Ok(Kept::new(alloc));
     };
-    let bytes = read_file(files, path, JOURNAL_LIMIT, NamedFile::Journal)?;
+    let read = read_file(files, path, JOURNAL_LIMIT, NamedFile::Journal)?;
+    let bytes = Bytes::from_vec(read)?;
     let journal = match read_journal(alloc, &bytes) {
         Ok(journal) => journal,
         Err(fault) => return Err(Refusal::of_journal(alloc, fault)),

@@ -15,10 +15,10 @@ use Rattle.std.specs.List.Sorted.{IsPermutation}
 use Rattle.std.specs.Str.{bytes_eq}
 use Rattle.script_gate_trait.specs.declared.gate.Verdict.{Verdict}
 use Rattle.verdict_table.specs.declared.record.Record.{Record}
-use Rattle.reduce_step.specs.Plan.{Ask, End, MayAsk, Plan, after, asked, follow}
+use Rattle.reduce_step.specs.Plan.{MayAsk, Plan, after, asked, follow}
 use Rattle.reduce_step.specs.Ahead.{ahead}
 use Rattle.verdict_table.specs.TableState.{Extends, texts_of, verdict_in}
-use Rattle.reduce_step.proofs.Lent.{ahead_may, after_may, follow_after, follow_ended, stays}
+use Rattle.reduce_step.proofs.Lent.{ahead_may, after_may, asked_may, follow_after, follow_ended, stays}
 use Rattle.verdict_table.proofs.Lent.{extends_front, extends_itself, distinct_front}
 use Rattle.reduce_journal.specs.declared.event.Event.{Event}
 use Rattle.reduce_journal.specs.declared.event.Event.TheVariants.{Recorded, Committed}
@@ -28,11 +28,6 @@ use Rattle.ordered_commit_moves.specs.Moves.{AreMoves, Claims, Commits, CoreStat
 use Rattle.ordered_commit_moves.specs.Moves.{after_moves, begun, claims_of_others, is_recorded, is_taken, kept_of, kept_record, recalled_as, recorded_as}
 use Rattle.ordered_commit_moves.specs.Moves.{text_of_worker}
 use Rattle.ordered_commit_moves.specs.Laws.{AnyOrderHolds, HoldsOf, all_texts}
-
--- what is asked may be asked
-pub asked_may : (p : Plan) (text : List ℕ) → asked p ≡ Some text → MayAsk p text
-asked_may (End result) text asks = absurd (cc asks)
-asked_may (Ask t at_yes at_no) text asks = inl (cc asks)
 
 -- ---- histories that grow
 

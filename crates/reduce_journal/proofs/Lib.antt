@@ -2,6 +2,7 @@ mod Lists
 mod Decides
 mod DecimalNumbers
 mod Events
+mod Ends
 mod Heads
 mod Journals
 mod KeptRecords

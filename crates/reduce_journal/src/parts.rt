@@ -1,14 +1,13 @@
 //! One event of a journal.
 
 ghost use Rattle.std.specs.Prelude.{◌≡◌, IfOk};
-ghost use Rattle.reduce_journal.specs.inner.Reading.{Gives, commit_at, event_at, kept_at, lent_event, record_at, text_at, verdict_at};
+ghost use Rattle.reduce_journal.specs.inner.Reading.{EndsAt, Gives, commit_at, event_at, kept_at, lent_event, record_at, text_at, verdict_at};
 
 use crate::event::Event;
 use crate::numbers::{Mismatch, after, number_at, positive_at};
 use faults::Memory;
 use reduce_step::TEXT_LIMIT;
 use script_gate_trait::{Bytes, Verdict};
-use std::alloc::Global;
 
 /// An event whose text lies in the journal.
 #[derive(Clone, Copy)]
@@ -26,8 +25,9 @@ pub(crate) enum LentEvent<'a> {
 }
 
 impl LentEvent<'_> {
-    /// The event, with a copy of its text.
-    pub(crate) fn to_event(&self, alloc: Global) -> Result<Event, Memory>
+    /// The event, whose bytes end here in the journal. Its text shares those of the journal.
+    pub(crate) fn to_event(&self, journal: &Bytes, end: usize) -> Result<Event, Memory>
+        requires { EndsAt journal.now end (lent_event self.now) }
         ensures { IfOk result (λ event. event ≡ lent_event self.now) }
     {
         match self {
@@ -36,7 +36,8 @@ impl LentEvent<'_> {
                 verdict,
                 kept,
             } => {
-                let text = Bytes::from_slice(alloc, *text)?;
+                let text_end = end - 1;
+                let text = journal.part(text_end - text.len(), text_end)?;
                 Ok(Event::Recorded {
                     text,
                     verdict: *verdict,

@@ -12,11 +12,12 @@ use crate::head::{Head, head_at};
 use crate::numbers::Mismatch;
 use crate::parts::{LentEvent, event_at};
 use faults::Memory;
+use script_gate_trait::Bytes;
 use std::alloc::{AllocFailed, Global};
 use thiserror::Error;
 use verdict_table::Kept;
 
-/// What was read of a journal.
+/// What was read of a journal. Its texts share the bytes that were read.
 #[derive(Drop)]
 pub struct Journal {
     /// The version of the format, 1 or 2.
@@ -65,8 +66,8 @@ impl<T: Drop> From<AllocFailed<T>> for JournalFault {
 }
 
 /// Reads a journal of version 1 or 2. Its texts may be any bytes, and need not be distinct. The time is
-/// linear in the bytes, and each text is copied once.
-pub fn read_journal(alloc: Global, bytes: &[u8]) -> Result<Journal, JournalFault>
+/// linear in the bytes. No text is copied: beside the bytes it takes the memory of the list of events.
+pub fn read_journal(alloc: Global, bytes: &Bytes) -> Result<Journal, JournalFault>
     ensures journal { IfOk result (λ journal. IsReadOf bytes.now journal) }
     ensures each_journal { (first : Head) (events : History) (torn : ℕ) → IsJournalOf bytes.now first events torn
         → GivesJournal first events torn result }
@@ -75,7 +76,7 @@ pub fn read_journal(alloc: Global, bytes: &[u8]) -> Result<Journal, JournalFault
     ensures each_bad_record { (offset : ℕ) → IsBadAt bytes.now offset
         → IsErrOf result (JournalFault.BadRecord offset) ⊎ IsErrOf result JournalFault.Memory }
 {
-    let Some((head, rest)) = head_at(bytes) else {
+    let Some((head, rest)) = head_at(bytes.as_slice()) else {
         return Err(JournalFault::BadHead);
     };
     let (events, torn) = read_events(alloc, bytes, head, rest)?;
@@ -113,7 +114,7 @@ fn first_digest(events: &[Event]) -> Option<Digest>
 /// Reads the events after a head, and the bytes of a torn tail.
 fn read_events(
     alloc: Global,
-    bytes: &[u8],
+    bytes: &Bytes,
     head: Head,
     after_head: &[u8],
 ) -> Result<(Vec<Event>, u64), JournalFault>
@@ -124,6 +125,7 @@ fn read_events(
     ensures bad_record { (offset : ℕ) → IsErrOf result (JournalFault.BadRecord offset) → IsBadAt bytes.now offset }
 {
     let version = head.version();
+    let len = bytes.len();
     let mut events = Vec::new(alloc);
     let mut records = 0;
     let mut rest = after_head;
@@ -131,13 +133,13 @@ fn read_events(
         match event_at(version, records, rest) {
             Ok((event, later)) => {
                 records = records_with(records, &event);
-                events.push(event.to_event(alloc)?)?;
+                events.push(event.to_event(bytes, len - later.len())?)?;
                 rest = later;
             }
             Err(Mismatch::Torn) => return Ok((events, rest.len() as u64)),
             Err(Mismatch::Bad) => {
                 return Err(JournalFault::BadRecord {
-                    offset: (bytes.len() - rest.len()) as u64,
+                    offset: (len - rest.len()) as u64,
                 });
             }
         }

@@ -1,4 +1,4 @@
-ghost use Rattle.std.specs.Prelude.{◌≡◌, ◌==◌, [], ◌∷◌, ◌++◌, length, IfOk, OnOk, OnErr};
+ghost use Rattle.std.specs.Prelude.{◌≡◌, ◌≤◌, ◌==◌, [], ◌∷◌, ◌++◌, length, slice_range, IfOk, OnOk, OnErr};
 
 use bytes::Bytes as SharedBytes;
 use faults::Memory;
@@ -27,6 +27,28 @@ impl Bytes {
     {
         Ok(Bytes {
             items: SharedBytes::copy_from_slice(alloc, items)?,
+        })
+    }
+
+    /// These bytes, which aren't copied.
+    pub fn from_vec(items: Vec<u8>) -> Result<Bytes, Memory>
+        ensures { IfOk result (λ bytes. bytes ≡ items.items) }
+    {
+        Ok(Bytes {
+            items: SharedBytes::from_vec(items)?,
+        })
+    }
+
+    /// The bytes from `start` up to but not including `end`, which aren't copied: they share those of
+    /// this list, and all of these stay in memory as long as one part does. It takes no memory, and fails
+    /// only where a list has more owners than can be counted.
+    pub fn part(&self, start: usize, end: usize) -> Result<Bytes, Memory>
+        requires order { start ≤ end }
+        requires within { end ≤ length self.now }
+        ensures { IfOk result (λ bytes. bytes ≡ slice_range self.now start end) }
+    {
+        Ok(Bytes {
+            items: self.items.slice(start..end)?,
         })
     }
 

@@ -10,10 +10,10 @@ use edge_io::MemSink;
 use keep_guard::{Guard, KeepTexts};
 use ordered_commit::{Board, PoolFault};
 use reduce_core::line_reducer;
-use reduce_journal::{Event, digest_of, read_journal};
+use reduce_journal::{Event, Journal, JournalFault, digest_of, read_journal};
 use reduce_rounds::ReducerStep;
 use reduce_step::TEXT_LIMIT;
-use script_gate_trait::{Gate, GateFault, ListGate, RuleGate, Said, Verdict};
+use script_gate_trait::{Bytes, Gate, GateFault, ListGate, RuleGate, Said, Verdict};
 use std::alloc::Global;
 use std::sync::{Arc, Wait};
 use std::test::Fail;
@@ -177,9 +177,15 @@ fn are_same(events: &[Event], others: &[Event]) -> bool {
     true
 }
 
+/// What can be read of a journal.
+fn read(alloc: Global, journal: &[u8]) -> Result<Journal, JournalFault> {
+    let bytes = Bytes::from_slice(alloc, journal)?;
+    read_journal(alloc, &bytes)
+}
+
 /// Whether the journal can be read, its last event is whole, and its events are those of the outcome.
 fn is_journal(alloc: Global, came: &Came) -> bool {
-    match read_journal(alloc, &came.journal) {
+    match read(alloc, &came.journal) {
         Ok(read) => read.torn == 0 && are_same(&read.events, &came.events),
         Err(_) => false,
     }
@@ -351,7 +357,7 @@ fn stops_with_the_journal<W: Threads + Wait + Sync>(
     count: u32,
 ) -> Result<bool, Fail> {
     let came = run_of(rt, alloc, &mut by_rule(alloc, count)?, &[7])?;
-    Ok(came.fault == Some(PoolFault::Journal) && read_journal(alloc, &came.journal).is_ok())
+    Ok(came.fault == Some(PoolFault::Journal) && read(alloc, &came.journal).is_ok())
 }
 
 #[test]
@@ -374,7 +380,7 @@ fn failing(alloc: Global, count: u32) -> Result<Vec<Worker<ListGate>>, Fail> {
 
 /// The verdicts of a journal.
 fn kept_in(alloc: Global, journal: &[u8]) -> Result<Kept, Fail> {
-    Ok(read_journal(alloc, journal)?.kept(alloc)?)
+    Ok(read(alloc, journal)?.kept(alloc)?)
 }
 
 /// A journal of version 1 with the events of this one of version 2.
@@ -458,7 +464,7 @@ fn stops_in_a_recall<W: Threads + Wait + Sync>(
 ) -> Result<bool, Fail> {
     let mut workers = failing(alloc, count)?;
     let came = run_with(rt, alloc, &mut workers, &[put], kept_in(alloc, journal)?)?;
-    let read = read_journal(alloc, &came.journal)?;
+    let read = read(alloc, &came.journal)?;
     Ok(
         came.fault == Some(PoolFault::Journal)
             && journal.starts_with(came.journal.as_slice())

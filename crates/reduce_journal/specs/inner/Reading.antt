@@ -1,6 +1,6 @@
 -- What is at the front of some bytes of a journal: a part of an event and the bytes after it, or why there is none.
-use Rattle.std.specs.Prelude.{◌≡◌, ℕ, ◌+◌, ◌-◌, ◌*◌, List, [], ◌∷◌, length, take, drop, Result, Ok, Err}
-use Rattle.std.specs.Prelude.{◌&&◌, ◌==◌, nat_le, nat_lt, Bool, true, false, if◌then◌else◌}
+use Rattle.std.specs.Prelude.{◌≡◌, ℕ, ◌+◌, ◌-◌, ◌*◌, ◌<◌, ◌≤◌, List, [], ◌∷◌, length, take, drop, slice_range, Result}
+use Rattle.std.specs.Prelude.{Ok, Err, ◌&&◌, ◌==◌, nat_le, nat_lt, Bool, true, false, if◌then◌else◌}
 use Rattle.std.specs.Char.{is_ascii_digit}
 use Rattle.script_gate_trait.specs.declared.gate.Verdict.{Verdict}
 use Rattle.script_gate_trait.specs.declared.gate.Verdict.TheVariants.{Yes, No}
@@ -97,3 +97,8 @@ event_at version records (b ∷ rest) =
 abbrev pub lent_event : LentEvent → Event
 lent_event (lent.Recorded text verdict kept) = Recorded text.now verdict kept
 lent_event (lent.Committed number) = Committed number
+
+-- the event's bytes end here in these bytes: those of a record with its text and a newline
+abbrev pub EndsAt : List ℕ → ℕ → Event → Type 0
+EndsAt bytes end (Recorded text verdict kept) = (length text < end) × (end ≤ length bytes) × (slice_range bytes (end - 1 - length text) (end - 1) ≡ text)
+EndsAt bytes end (Committed number) = Unit {0}

@@ -150,6 +150,12 @@ fn writes_the_worked_journal(rt: HostRuntime) -> Result<(), Fail> {
     Ok(())
 }
 
+/// What is read of these bytes.
+pub(crate) fn read(alloc: Global, bytes: &[u8]) -> Result<Result<Journal, JournalFault>, Memory> {
+    let bytes = Bytes::from_slice(alloc, bytes)?;
+    Ok(read_journal(alloc, &bytes))
+}
+
 /// How many events are whole in so many bytes after the head, and where the last of them ends.
 fn whole_events(cut: usize) -> (usize, usize) {
     let mut whole = (0, 0);
@@ -168,7 +174,7 @@ fn is_read_up_to(alloc: Global, begun: &[u8], after_head: usize) -> Result<bool,
     let Some(rows) = HISTORY.get(..events) else {
         return Ok(false);
     };
-    let journal = read_journal(alloc, begun)?;
+    let journal = read(alloc, begun)??;
     Ok(are_events(&journal.events, rows) && journal.torn == after_head.abs_diff(end) as u64)
 }
 
@@ -178,7 +184,7 @@ fn first_other_cut(alloc: Global, whole: &[u8], head: usize) -> Result<Option<us
     for cut in 0..whole.len() + 1 {
         let begun = &whole[..cut];
         let is_right = if cut < head {
-            read_journal(alloc, begun).err() == Some(JournalFault::BadHead)
+            read(alloc, begun)?.err() == Some(JournalFault::BadHead)
         } else {
             is_read_up_to(alloc, begun, cut - head)?
         };
@@ -198,7 +204,7 @@ fn reads_the_worked_journal_up_to_each_cut(rt: HostRuntime) -> Result<(), Fail> 
 
 /// The version and the start of a journal.
 fn headed(alloc: Global, bytes: &[u8]) -> Result<(u32, Option<Digest>), Fail> {
-    let journal = read_journal(alloc, bytes)?;
+    let journal = read(alloc, bytes)??;
     Ok((journal.version, journal.start))
 }
 
@@ -237,10 +243,7 @@ const NO_HEADS: [&[u8]; 9] = [
 #[test]
 fn refuses_what_is_no_head(rt: HostRuntime) -> Result<(), Fail> {
     for bytes in NO_HEADS {
-        assert_eq!(rt;
-            read_journal(rt.alloc(), bytes).err(),
-            Some(JournalFault::BadHead)
-        );
+        assert_eq!(rt; read(rt.alloc(), bytes)?.err(), Some(JournalFault::BadHead));
     }
     Ok(())
 }
@@ -325,7 +328,7 @@ fn read_after(
 ) -> Result<Result<Journal, JournalFault>, Fail> {
     let mut bytes = Vec::from_slice(alloc, begin)?;
     bytes.extend_from_slice(tail)?;
-    Ok(read_journal(alloc, bytes.as_slice()))
+    Ok(read(alloc, &bytes)?)
 }
 
 /// Whether these are so many events and a torn tail of so many bytes.
@@ -417,14 +420,14 @@ fn writes_and_reads_kept_records(rt: HostRuntime) -> Result<(), Fail> {
     let mut sink = MemSink::new(rt.alloc(), 1000, Vec::new(rt.alloc()))?;
     assert_eq!(rt; written(&mut sink, rt.alloc(), &RESUMED)?, 4);
     assert!(rt; sink.bytes() == RESUMED_JOURNAL);
-    let journal = read_journal(rt.alloc(), RESUMED_JOURNAL)?;
+    let journal = read(rt.alloc(), RESUMED_JOURNAL)??;
     assert!(rt; are_events(&journal.events, &RESUMED));
     Ok(())
 }
 
 /// The verdicts of what a run left of its journal.
 pub(crate) fn kept_in(alloc: Global, journal: &[u8]) -> Result<Kept, Fail> {
-    Ok(read_journal(alloc, journal)?.kept(alloc)?)
+    Ok(read(alloc, journal)??.kept(alloc)?)
 }
 
 /// A journal whose texts come twice, and look like events.
@@ -439,7 +442,7 @@ const TWICE_EVENTS: [Row; 3] = [
 
 #[test]
 fn keeps_any_bytes_and_texts_that_come_twice(rt: HostRuntime) -> Result<(), Fail> {
-    let journal = read_journal(rt.alloc(), TWICE)?;
+    let journal = read(rt.alloc(), TWICE)??;
     assert_eq!(rt; journal.torn, 0);
     assert!(rt; are_events(&journal.events, &TWICE_EVENTS));
     Ok(())

@@ -1,14 +1,14 @@
 //! Runs of one worker over the reduction of `a=1;b=2;c=3;`, statement by statement. Where nothing ends it
 //! before its time, and yes is the answer if there is a `b`, its journal is the worked one.
 
-use super::journals::{HEAD, JOURNAL, JOURNAL_1, START, kept_in};
+use super::journals::{HEAD, JOURNAL, JOURNAL_1, START, kept_in, read};
 use super::outcomes::has_come_to;
 use crate::small_step::SmallStep;
 use edge_io::MemSink;
 use faults::Memory;
 use gate_permits::Texts;
 use ordered_commit::{Board, BoardFault, Outcome, PoolFault, Refused};
-use reduce_journal::{digest_of, read_journal};
+use reduce_journal::digest_of;
 use reduce_step::Step;
 use run_worker::run_alone;
 use script_gate_trait::{Gate, ListGate, RuleGate, Said};
@@ -166,7 +166,7 @@ fn breaks_off_with<W: Wait>(
 fn leaves_a_beginning<W: Wait>(rt: &W, alloc: Global, put: u64) -> Result<bool, Memory> {
     let came = broken_at(rt, alloc, put)?;
     let (journal, fault) = left_by(&came);
-    let can_be_read = read_journal(alloc, journal.bytes()).is_ok();
+    let can_be_read = read(alloc, journal.bytes())?.is_ok();
     Ok(
         fault == Some(PoolFault::Journal)
             && JOURNAL.starts_with(journal.bytes())

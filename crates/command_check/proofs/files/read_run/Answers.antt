@@ -8,7 +8,7 @@ use Rattle.command_words.specs.Lines.{check_read}
 use Rattle.command_ends.specs.declared.status.NamedFile.TheVariants as named
 use Rattle.command_ends.specs.Status.{ReadFails}
 use Rattle.command_ends.specs.World.{SeenFiles, journal_limit, seen}
-use Rattle.command_check.proofs.FileLemmas.{journal_bad, journal_fails, result_fails, run_read}
+use Rattle.command_check.proofs.FileLemmas.{journal_bad, journal_fails, memory_fails, result_fails, run_read}
 use Rattle.command_ends.proofs.Lent.{same_seen}
 use Rattle.command_check.proofs.files.read_run.Goals as goal
 
@@ -18,30 +18,37 @@ returns-in_err-output-clause-refused g c reached =
     rw (p.1, p.2) (result_fails (check_read c.args.line.now) (seen g.F.Files.content g.F.Files.faults c.args.files.now)
     (seen g.F.Files.content g.F.Files.faults c.read_file.new.files) reached c.in_err-output.field-0.0 c.in_err-output.ensures.refused)
 
-pub returns-in_err-bytes-clause-refused : goal.returns-in_err-bytes-clause-refused
-returns-in_err-bytes-clause-refused g c reached =
-    let p = err_from_is_err_and c.from_residual-in_err-bytes.result c.from_residual-in_err-bytes.ensures.1 in
+pub returns-in_err-read-clause-refused : goal.returns-in_err-read-clause-refused
+returns-in_err-read-clause-refused g c reached =
+    let p = err_from_is_err_and c.from_residual-in_err-read.result c.from_residual-in_err-read.ensures.1 in
     let options = check_read c.args.line.now in
     let files = seen g.F.Files.content g.F.Files.faults c.args.files.now in
     let between = seen g.F.Files.content g.F.Files.faults c.read_file.new.files in
     let files' = seen g.F.Files.content g.F.Files.faults c.read_file-2.new.files in
-    let refusal = c.in_err-bytes.field-0.0 in
+    let refusal = c.in_err-read.field-0.0 in
     rw (p.1, p.2) (journal_fails options files files'
     (reached, record { bytes = c.in_ok-output.output.items; read = c.in_ok-output.ensures.bytes; within = c.in_ok-output.ensures.limit; holds = tt }) refusal
     (subst (λ (before : SeenFiles). ReadFails journal_limit named.Journal (before.shown options.journal) before files' refusal)
-    (same_seen files between c.read_file.ensures.same c.in_ok-output.ensures.quiet) c.in_err-bytes.ensures.refused))
+    (same_seen files between c.read_file.ensures.same c.in_ok-output.ensures.quiet) c.in_err-read.ensures.refused))
+
+pub returns-in_err-bytes-clause-refused : goal.returns-in_err-bytes-clause-refused
+returns-in_err-bytes-clause-refused g c reached =
+    let p = err_from_is_err_and c.from_residual-in_err-bytes.result c.from_residual-in_err-bytes.ensures.1 in
+    let files = seen g.F.Files.content g.F.Files.faults c.args.files.now in
+    let files' = seen g.F.Files.content g.F.Files.faults c.read_file-2.new.files in
+    rw (p.1, p.2) (memory_fails (check_read c.args.line.now) files files' (c.in_ok-read.ensures.quiet ∙ c.in_ok-output.ensures.quiet))
 
 pub returns-in-Ok-clause-run : goal.returns-in-Ok-clause-run
 returns-in-Ok-clause-run g c =
     let options = check_read c.args.line.now in
     let files = seen g.F.Files.content g.F.Files.faults c.args.files.now in
     let between = seen g.F.Files.content g.F.Files.faults c.read_file.new.files in
-    let is = c.deref.ensures.value in
-    run_read options files c.in_ok-output.output.items c.deref.result.now c.in_ok-output.ensures.bytes c.in_ok-output.ensures.limit
+    let is = c.in_ok-bytes.ensures in
+    run_read options files c.in_ok-output.output.items c.in_ok-bytes.bytes c.in_ok-output.ensures.bytes c.in_ok-output.ensures.limit
     (subst (λ (bytes : List ℕ). Holds bytes (files.shown options.journal)) (sym is)
-    (subst (λ (before : SeenFiles). Holds c.in_ok-bytes.bytes.items (before.shown options.journal))
-    (same_seen files between c.read_file.ensures.same c.in_ok-output.ensures.quiet) c.in_ok-bytes.ensures.bytes))
-    (subst (λ (bytes : List ℕ). length bytes ≤ journal_limit) (sym is) c.in_ok-bytes.ensures.limit) c.in-Ok.journal c.in-Ok.ensures.journal
+    (subst (λ (before : SeenFiles). Holds c.in_ok-read.read.items (before.shown options.journal))
+    (same_seen files between c.read_file.ensures.same c.in_ok-output.ensures.quiet) c.in_ok-read.ensures.bytes))
+    (subst (λ (bytes : List ℕ). length bytes ≤ journal_limit) (sym is) c.in_ok-read.ensures.limit) c.in-Ok.journal c.in-Ok.ensures.journal
 
 pub returns-in-Err-clause-refused : goal.returns-in-Err-clause-refused
 returns-in-Err-clause-refused g c reached =
@@ -49,14 +56,14 @@ returns-in-Err-clause-refused g c reached =
     let files = seen g.F.Files.content g.F.Files.faults c.args.files.now in
     let between = seen g.F.Files.content g.F.Files.faults c.read_file.new.files in
     let files' = seen g.F.Files.content g.F.Files.faults c.read_file-2.new.files in
-    let is = c.deref.ensures.value in
+    let is = c.in_ok-bytes.ensures in
     journal_bad options files files'
     (reached, record { bytes = c.in_ok-output.output.items; read = c.in_ok-output.ensures.bytes; within = c.in_ok-output.ensures.limit; holds = tt })
-    (c.in_ok-bytes.ensures.quiet ∙ c.in_ok-output.ensures.quiet) c.deref.result.now
+    (c.in_ok-read.ensures.quiet ∙ c.in_ok-output.ensures.quiet) c.in_ok-bytes.bytes
     (subst (λ (bytes : List ℕ). Holds bytes (files.shown options.journal)) (sym is)
-    (subst (λ (before : SeenFiles). Holds c.in_ok-bytes.bytes.items (before.shown options.journal))
-    (same_seen files between c.read_file.ensures.same c.in_ok-output.ensures.quiet) c.in_ok-bytes.ensures.bytes))
-    (subst (λ (bytes : List ℕ). length bytes ≤ journal_limit) (sym is) c.in_ok-bytes.ensures.limit)
+    (subst (λ (before : SeenFiles). Holds c.in_ok-read.read.items (before.shown options.journal))
+    (same_seen files between c.read_file.ensures.same c.in_ok-output.ensures.quiet) c.in_ok-read.ensures.bytes))
+    (subst (λ (bytes : List ℕ). length bytes ≤ journal_limit) (sym is) c.in_ok-read.ensures.limit)
     c.in-Err.fault c.of_journal.result c.of_journal.ensures
     (λ head events torn of. subst (λ (answer : Result Journal JournalFault). GivesJournal head events torn answer) c.in-Err.is
     (c.read_journal.ensures.each_journal head events torn of))

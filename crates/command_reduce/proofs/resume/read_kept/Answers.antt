@@ -13,22 +13,27 @@ returns-in_default-clause-kept g c =
     subst (λ path. IsKeptFrom (option_map (λ p. p.now) path) files c.args.start.now c.new.result) (sym (none_named c.args.path c.in_default.not-Some))
     c.new.ensures
 
-pub returns-in_err-bytes-clause-refused : goal.returns-in_err-bytes-clause-refused
-returns-in_err-bytes-clause-refused g c =
+pub returns-in_err-read-clause-refused : goal.returns-in_err-read-clause-refused
+returns-in_err-read-clause-refused g c =
     let p = err_from_is_err_and c.from_residual.result c.from_residual.ensures.1 in
     let old = seen g.F.Files.content g.F.Files.faults c.args.files.now in
     let new = seen g.F.Files.content g.F.Files.faults c.read_file.new.files in
-    rw (p.1, p.2, c.in-Some.is) (unread_fails c.in-Some.path.now c.args.start.now old new c.in_err-bytes.field-0.0 c.in_err-bytes.ensures.refused)
+    rw (p.1, p.2, c.in-Some.is) (unread_fails c.in-Some.path.now c.args.start.now old new c.in_err-read.field-0.0 c.in_err-read.ensures.refused)
+
+pub returns-in_err-bytes-clause-refused : goal.returns-in_err-bytes-clause-refused
+returns-in_err-bytes-clause-refused g c =
+    let p = err_from_is_err_and c.from_residual-in_err-bytes.result c.from_residual-in_err-bytes.ensures.1 in
+    rw (p.1, p.2, c.in-Some.is) c.in_ok-read.ensures.quiet
 
 pub returns-in-Err-clause-refused : goal.returns-in-Err-clause-refused
 returns-in-Err-clause-refused g c =
     let old = seen g.F.Files.content g.F.Files.faults c.args.files.now in
     let new = seen g.F.Files.content g.F.Files.faults c.read_file.new.files in
     let path = c.in-Some.path.now in
-    let is = c.deref.ensures.value in
-    rw c.in-Some.is (bad_fails path c.args.start.now old new c.in_ok-bytes.ensures.quiet c.deref.result.now
-    (subst (λ (bytes : List ℕ). Holds bytes (old.shown path)) (sym is) c.in_ok-bytes.ensures.bytes)
-    (subst (λ (bytes : List ℕ). length bytes ≤ journal_limit) (sym is) c.in_ok-bytes.ensures.limit) c.in-Err.fault c.of_journal.result c.of_journal.ensures
+    let is = c.in_ok-bytes.ensures in
+    rw c.in-Some.is (bad_fails path c.args.start.now old new c.in_ok-read.ensures.quiet c.in_ok-bytes.bytes
+    (subst (λ (bytes : List ℕ). Holds bytes (old.shown path)) (sym is) c.in_ok-read.ensures.bytes)
+    (subst (λ (bytes : List ℕ). length bytes ≤ journal_limit) (sym is) c.in_ok-read.ensures.limit) c.in-Err.fault c.of_journal.result c.of_journal.ensures
     (λ no_head. c.read_journal.ensures.bad_head.0 (c.in-Err.is ∙ ap (λ (fault : JournalFault). Err fault) no_head))
     (λ offset bad. c.read_journal.ensures.bad_record offset (c.in-Err.is ∙ ap (λ (fault : JournalFault). Err fault) bad)))
 
@@ -37,11 +42,11 @@ returns-clause-kept g c =
     let old = seen g.F.Files.content g.F.Files.faults c.args.files.now in
     let new = seen g.F.Files.content g.F.Files.faults c.read_file.new.files in
     let path = c.in-Some.path.now in
-    let is = c.deref.ensures.value in
+    let is = c.in_ok-bytes.ensures in
     rw c.in-Some.is (IfOk-weaker c.kept_of.result _ _
-    (λ kept. is_kept path c.args.start.now old new c.in_ok-bytes.ensures.quiet c.deref.result.now
-    (subst (λ (bytes : List ℕ). Holds bytes (old.shown path)) (sym is) c.in_ok-bytes.ensures.bytes)
-    (subst (λ (bytes : List ℕ). length bytes ≤ journal_limit) (sym is) c.in_ok-bytes.ensures.limit) c.in-Ok.journal c.in-Ok.ensures.journal kept)
+    (λ kept. is_kept path c.args.start.now old new c.in_ok-read.ensures.quiet c.in_ok-bytes.bytes
+    (subst (λ (bytes : List ℕ). Holds bytes (old.shown path)) (sym is) c.in_ok-read.ensures.bytes)
+    (subst (λ (bytes : List ℕ). length bytes ≤ journal_limit) (sym is) c.in_ok-read.ensures.limit) c.in-Ok.journal c.in-Ok.ensures.journal kept)
     c.kept_of.ensures.kept)
 
 pub returns-clause-refused : goal.returns-clause-refused
@@ -49,9 +54,9 @@ returns-clause-refused g c =
     let old = seen g.F.Files.content g.F.Files.faults c.args.files.now in
     let new = seen g.F.Files.content g.F.Files.faults c.read_file.new.files in
     let path = c.in-Some.path.now in
-    let is = c.deref.ensures.value in
+    let is = c.in_ok-bytes.ensures in
     rw c.in-Some.is (IfErr-weaker c.kept_of.result _ _
-    (λ refusal. kept_fails path c.args.start.now old new c.in_ok-bytes.ensures.quiet c.deref.result.now
-    (subst (λ (bytes : List ℕ). Holds bytes (old.shown path)) (sym is) c.in_ok-bytes.ensures.bytes)
-    (subst (λ (bytes : List ℕ). length bytes ≤ journal_limit) (sym is) c.in_ok-bytes.ensures.limit) c.in-Ok.journal c.in-Ok.ensures.journal refusal)
+    (λ refusal. kept_fails path c.args.start.now old new c.in_ok-read.ensures.quiet c.in_ok-bytes.bytes
+    (subst (λ (bytes : List ℕ). Holds bytes (old.shown path)) (sym is) c.in_ok-read.ensures.bytes)
+    (subst (λ (bytes : List ℕ). length bytes ≤ journal_limit) (sym is) c.in_ok-read.ensures.limit) c.in-Ok.journal c.in-Ok.ensures.journal refusal)
     c.kept_of.ensures.refused)

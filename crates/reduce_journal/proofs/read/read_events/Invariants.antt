@@ -7,7 +7,7 @@ abbrev pub invariant-loop-event : goal.invariant-loop-event
 invariant-loop-event l = record {
   events : HasEvents l.bytes l.fn.head l.events.items l.rest;
   records : l.records ≡ length (records_of l.events.items);
-  few : l.records + length l.rest ≤ length l.bytes;
+  few : l.records + length l.rest ≤ l.len;
 }
 
 abbrev pub decreases-loop-event : goal.decreases-loop-event
