@@ -268,6 +268,20 @@ class Notices(unittest.TestCase):
             "reduce", "--mode", "lines", "--input", "i", "--output", "none/o", "--script", "s",
         )
 
+    def test_journals_that_are_not_set_aside(self):
+        words = ["reduce", *LINES, "--script", "s", "--resume", "o.journal"]
+        aside = self.folder / "o.journal.resumed"
+        text = "perses: warning: o.journal isn't set aside ({}): where this run is stopped, some of its verdicts may be lost\n" + DONE
+        self.run_plain(*words[:-2])
+        self.write(aside.name, f"perses-journal 2\nS {'0' * 64}\n")
+        self.says(0, text.format("the one that was set aside before is of another input"), *words)
+        self.write(aside.name, "notes\n")
+        self.says(0, text.format("a file of its name and .resumed or .joined isn't a journal"), *words)
+        self.assertEqual(aside.read_bytes(), b"notes\n")
+        os.remove(aside)
+        self.says(0, DONE, *words)
+        self.assertFalse(aside.exists())
+
     def test_warnings(self):
         self.write("i", "")
         (self.folder / "perses-work").mkdir()
@@ -286,6 +300,16 @@ class Notices(unittest.TestCase):
         text = "perses: warning: the input and a candidate are one and the same file, perses-work/1/i\n"
         ended, _, said = self.run_plain("reduce", "--mode", "lines", "--input", "perses-work/1/i", "--output", "o", "--script", "s")
         self.assertEqual((ended, masked(said)), (0, text + DONE))
+
+    def test_journal_of_resume_that_is_written_over(self):
+        self.run_plain("reduce", *LINES, "--script", "s", "--journal", "f")
+        text = "perses: warning: the journal of --resume and the output are one and the same file, f\n" + DONE
+        ended, _, said = self.run_plain("reduce", "--mode", "lines", "--input", "i", "--output", "f", "--journal", "o.journal", "--script", "s", "--resume", "f")
+        self.assertEqual((ended, masked(said)), (0, text.replace(" o,", " f,")))
+        (self.folder / "perses-work/1/i").write_bytes((self.folder / "o.journal").read_bytes())
+        text = "perses: warning: the journal of --resume and a candidate are one and the same file, perses-work/1/i\n" + DONE
+        ended, _, said = self.run_plain("reduce", *LINES, "--script", "s", "--resume", "perses-work/1/i")
+        self.assertEqual((ended, masked(said)), (0, text))
 
     def test_line_on_a_terminal(self):
         self.script("n", "sleep 1.2; grep -q b \"$1\"")

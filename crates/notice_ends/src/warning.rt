@@ -1,9 +1,10 @@
 //! What is said before a run.
 
+use command_resume::is_one_file;
 use command_words::{ModeLine, ReduceLine};
 use std::alloc::AllocError;
 use std::fs;
-use std::os::unix::fs::{MetadataExt, PermissionsExt};
+use std::os::unix::fs::PermissionsExt;
 use std::rt::Files;
 
 /// A file that a command line names.
@@ -17,14 +18,6 @@ struct Named<'a> {
     written: bool,
 }
 
-/// Whether both paths lead to one file. A file that isn't there yet is known by its path alone.
-fn are_one<R: Files>(rt: &R, one: &str, other: &str) -> bool {
-    match (fs::metadata(rt, one), fs::metadata(rt, other)) {
-        (Ok(one), Ok(other)) => one.ino() == other.ino() && one.dev() == other.dev(),
-        _ => one == other,
-    }
-}
-
 /// Warns of those of the other files that are this one, where one of both is written.
 fn add_same_as<R: Files>(
     text: &mut String,
@@ -33,7 +26,7 @@ fn add_same_as<R: Files>(
     others: &[Named<'_>],
 ) -> Result<(), AllocError> {
     for other in others {
-        if (file.written || other.written) && are_one(rt, file.path, other.path) {
+        if (file.written || other.written) && is_one_file(rt, file.path, other.path) {
             write!(
                 text,
                 "perses: warning: {} and {} are one and the same file, {}\n",
@@ -75,6 +68,21 @@ fn add_one_file<R: Files + AllocGlobal>(
 ) -> Result<(), AllocError> {
     add_same(text, rt, files)?;
     add_candidates(text, rt, line, files)
+}
+
+/// Warns where the journal that is resumed is the output, or a file that a worker's candidates are written to.
+fn add_resumed<R: Files + AllocGlobal>(
+    text: &mut String,
+    rt: &R,
+    line: &ReduceLine<'_>,
+    output: Named<'_>,
+) -> Result<(), AllocError> {
+    let Some(path) = line.resume else {
+        return Ok(());
+    };
+    let resumed = [read("the journal of --resume", path)];
+    add_same_as(text, rt, output, &resumed)?;
+    add_candidates(text, rt, line, &resumed)
 }
 
 fn add_empty<R: Files>(text: &mut String, rt: &R, file: Named<'_>) -> Result<(), AllocError> {
@@ -214,6 +222,7 @@ pub fn warnings<R: Files + AllocGlobal + Clone + Drop>(
             }
         }
     }
+    add_resumed(&mut text, rt, line, output)?;
     add_script(&mut text, rt, line.script)?;
     add_folder(&mut text, rt, output)?;
     add_work(&mut text, rt, line.work)?;

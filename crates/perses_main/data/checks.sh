@@ -101,6 +101,7 @@ make_script empty-only 'test ! -s "$1"'
 ends 0 "$(report '2 -> 0' '4 -> 0' 2 2 2)" reduce --mode lines --input lines --output unwritten --script empty-only \
     --resume unwritten.journal
 journal_is lines unwritten 'K y 4\na\nb\n\nC 1\nR y 0\n\nC 2\n'
+test ! -e unwritten.journal.resumed
 # A journal of other bytes isn't, nor is what is no journal; no file changes then.
 cp unwritten.journal other
 other="journal is of another start: $(sha256sum < lines | cut -c 1-64), input: $(sha256sum < bytes | cut -c 1-64)"
@@ -108,6 +109,62 @@ ends 13 "perses: $other" reduce --mode lines --input bytes --output unwritten --
 ends 14 'perses: bad journal head' reduce --mode lines --input lines --output unwritten --script always --resume lines
 ends 3 'perses: cannot read journal' reduce --mode lines --input lines --output unwritten --script always --resume missing
 cmp other unwritten.journal
+
+# Nothing of that journal is lost where the run that resumes it is killed too: it is set aside. A killed run
+# asks once more than it records, and that alone is asked again.
+printf 'a\nb\nc\nd\n' > letters
+make_script counting 'printf x >> asks; test "$(wc -c < asks)" != "$(cat kill-at)" || kill -9 $PPID; grep -q a "$1"'
+# counts STATUS N WORD..: a run with these words is killed at the ask of this number, from 1 over all runs,
+# or ends with this status.
+counts() {
+    wanted=$1
+    echo "$2" > kill-at
+    shift 2
+    status=0
+    {
+        "$program" reduce --mode lines --input letters --output counted --script counting "$@" > put || status=$?
+    } 2> /dev/null
+    test "$status" = "$wanted"
+}
+resume='--resume counted.journal'
+aside=counted.journal.resumed
+: > asks
+counts 0 none
+asked=$(wc -c < asks)
+mv counted.journal whole
+mv put whole.put
+: > asks
+counts 137 4
+cp counted.journal stopped
+# (killed in its first ask; and then as it is where it is killed directly after the head, or before it)
+counts 137 5 $resume
+cmp $aside stopped
+head -c 84 $aside > counted.journal
+counts 137 6 $resume
+: > counted.journal
+head -c 99 $aside > counted.journal.joined
+# (a fault of the script, or of the words, loses nothing either)
+mv counting elsewhere
+counts 11 none $resume
+test -e $aside
+ends 3 'perses: cannot read input' reduce --mode lines --input missing --output counted --script counting $resume
+test ! -e $aside
+sed 's/^R /K /' stopped | cmp - counted.journal
+mv elsewhere counting
+counts 0 none --resume ./counted.journal
+test "$(wc -c < asks)" -eq $((asked + 3))
+cmp put whole.put
+sed 's/^K /R /' counted.journal | cmp - whole
+test ! -e $aside
+test ! -e counted.journal.joined
+# What was set aside is given up where the journal is begun anew; what is no journal stays.
+cp stopped $aside
+counts 0 none
+test ! -e $aside
+printf keep > $aside
+counts 0 none $resume
+counts 0 none
+test "$(cat $aside)" = keep
 
 # Each candidate is a program for the shell, which says yes where its last command succeeds.
 printf 'true\nfalse\ntrue\n' > yes
@@ -253,7 +310,6 @@ test ! -e perses-work
 test ! -e reordered.journal
 journal_text lines 'R y 4\na\nb\n\nC 1\nR n 0\n\nC 2\nR y 2\na\n\nC 3\nC 2\n' | cmp - log
 # Several scripts at once come to what one after another come to, each in a folder of its worker.
-printf 'a\nb\nc\nd\n' > letters
 for jobs in 1 2 4 16; do
     "$program" reduce --mode lines --input letters --output several --script has-a --work many --jobs "$jobs" > put
     test "$(cat several)" = a
@@ -350,6 +406,8 @@ says 'perses: unwritable.journal: No space left on device (os error 28)' $byline
 says 'perses: on the whole input the script ended with signal: 9 (SIGKILL)' $byline killed --output o
 says 'perses: ./no-run-bit: Permission denied (os error 13)' $byline no-run-bit --output o
 says 'perses: warning: the script no-run-bit isn'\''t executable: chmod +x no-run-bit' $byline no-run-bit --output o
+says 'perses: warning: counted.journal isn'\''t set aside (a file of its name and .resumed or .joined isn'\''t a journal): where this run is stopped, some of its verdicts may be lost' \
+    reduce --mode lines --input letters --output counted --script has-a $resume
 # Where standard error is closed, nothing is said in another file.
 "$program" $byline has-a --output o > put 2>&-
 test "$(cat o)" = a

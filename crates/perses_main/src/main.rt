@@ -7,7 +7,8 @@
 //! `perses normal --grammar F` prints the normal form of a grammar, and `perses selftest` reduces a
 //! generated program in memory. All words are in `docs/FORMATS.md`. The work is done by the top call,
 //! [`command_perses::perses`], whose contract is the program's; here it gets the machine's threads, files,
-//! processes, a file for the journal, and standard output.
+//! processes, a file for the journal, and standard output. Beside it, a journal that is resumed and
+//! written anew is set aside ([`command_resume::take_up`]).
 #![tactic(auto)]
 
 mod args;
@@ -18,6 +19,7 @@ ghost use Rattle.command_perses.specs.Workers.{AreNumbered};
 
 use args::words_of;
 use command_perses::{add_worker, no_workers, perses};
+use command_resume::{SetAside, take_up};
 use edge_io::DiskFiles;
 use notices::{Notices, ScriptGate};
 use std::process::ExitCode;
@@ -55,6 +57,27 @@ fn in_place_of_output<R: Files>(rt: &R) -> Option<(R::File, R::File)> {
     ))
 }
 
+/// Sets the journal aside that a run by these words resumes and writes anew.
+fn set_journal_aside(rt: &HostRuntime, notices: &Notices, words: &[String]) -> Option<SetAside> {
+    match take_up(rt, words) {
+        Ok(aside) => aside,
+        Err(fault) => {
+            notices.warn(rt, &fault);
+            None
+        }
+    }
+}
+
+/// Removes what was set aside, where the run ended so that the journal has all.
+fn leave_aside(rt: &HostRuntime, notices: &Notices, aside: Option<SetAside>, status: u8) {
+    let Some(aside) = aside else {
+        return;
+    };
+    if let Err(fault) = aside.leave(rt, status) {
+        notices.warn(rt, &fault);
+    }
+}
+
 /// Runs the program over the machine's threads, files, processes and standard output.
 fn run_program<W: Threads + Wait + Clock + Copy + Send + Sync + 'static>(
     threads: &W,
@@ -67,6 +90,7 @@ fn run_program<W: Threads + Wait + Clock + Copy + Send + Sync + 'static>(
     let mut workers = all_workers(rt, &notices)?;
     let journal = notices.journal(rt)?;
     let mut out = notices.output(rt)?;
+    let aside = set_journal_aside(rt, &notices, &words);
     let drawing = notices.begin(threads, rt, &words);
     let ended = perses(
         threads,
@@ -81,6 +105,7 @@ fn run_program<W: Threads + Wait + Clock + Copy + Send + Sync + 'static>(
     if let Some(drawing) = drawing {
         drawing.join(threads);
     }
+    leave_aside(rt, &notices, aside, ended.status);
     drop(in_place);
     Ok(ended.status)
 }

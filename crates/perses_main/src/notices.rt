@@ -1,6 +1,7 @@
 //! What the program says on standard error. Nothing of it changes a result or a status.
 
 use command_perses::Ended;
+use command_resume::AsideFault;
 use command_words::{CommandLine, ModeLine, NamedGrammar, ReduceLine, journal_name, read_words};
 use edge_io::{DiskFiles, StreamSink};
 use notice_counts::{
@@ -77,6 +78,15 @@ impl Notices {
     pub fn output(&self, rt: &HostRuntime) -> io::Result<Output> {
         let sink = StreamSink::output(rt.clone()?);
         Ok(ScreenOutput::new(sink, rt.stderr(), Arc::try_clone(&self.screen)?))
+    }
+
+    /// Warns of what went wrong beside the run.
+    pub fn warn(&self, rt: &HostRuntime, fault: &AsideFault) {
+        if self.wanted {
+            let _ = rt
+                .stderr()
+                .print(format_args!("perses: warning: {fault}\n"));
+        }
     }
 
     /// Warns of what will go wrong, and begins to draw, where the words are a command line of `reduce`.

@@ -1,0 +1,64 @@
+//! What may go wrong beside a run.
+
+use faults::Memory;
+use std::alloc::AllocError;
+use std::io;
+use thiserror::Error;
+
+/// Why a journal couldn't be set aside.
+#[derive(Clone, Copy, Debug, Error)]
+pub enum AsideCause {
+    /// A call of the machine failed.
+    #[error("{reason}")]
+    Failed { reason: io::Error },
+    /// A file under one of the names beside the journal's isn't a journal: it isn't touched.
+    #[error("a file of its name and .resumed or .joined isn't a journal")]
+    NoJournal,
+    /// What was set aside before is of another start.
+    #[error("the one that was set aside before is of another input")]
+    OtherStart,
+    /// One of the journals, or both together, have more bytes than a journal may have.
+    #[error("with the one that was set aside before it is too long")]
+    TooLong,
+    /// Memory ran out.
+    #[error("out of memory")]
+    Memory,
+}
+
+impl From<io::Error> for AsideCause {
+    fn from(reason: io::Error) -> AsideCause {
+        AsideCause::Failed { reason }
+    }
+}
+
+impl From<Memory> for AsideCause {
+    fn from(_: Memory) -> AsideCause {
+        AsideCause::Memory
+    }
+}
+
+impl From<AllocError> for AsideCause {
+    fn from(_: AllocError) -> AsideCause {
+        AsideCause::Memory
+    }
+}
+
+/// What went wrong beside a run, which goes on as without it.
+#[derive(Debug, Drop, Error)]
+pub enum AsideFault {
+    /// The journal of this name isn't set aside.
+    #[error("{journal} isn't set aside ({cause}): where this run is stopped, some of its verdicts may be lost")]
+    NotSetAside { journal: String, cause: AsideCause },
+    /// The file of this name, in which a journal was set aside, stays.
+    #[error("{aside} can't be removed ({reason})")]
+    NotRemoved { aside: String, reason: io::Error },
+    /// Memory ran out.
+    #[error("out of memory")]
+    Memory,
+}
+
+impl From<Memory> for AsideFault {
+    fn from(_: Memory) -> AsideFault {
+        AsideFault::Memory
+    }
+}
