@@ -7,10 +7,10 @@
 // arguments, as `__builtin_va_arg (list, int)` has. Lines of the preprocessor are passed over, also those of `gcc -E`.
 // Not covered: digraphs and trigraphs, `[[..]]` and what else C23 adds, and words of other compilers, as `__declspec`.
 //
-// Measured after `gcc -E`, on files of at most 262,144 bytes: of the 3,663 of GCC 12's c-torture all parse but `dll.c`,
-// which GCC refuses too, and one that isn't UTF-8; nine more are longer. All 127 of zlib 1.2, bzip2 1.0, Lua 5.4 and
-// cJSON 1.7 do, at 3.7 microseconds a token. Time grows as the text does, but in chains of `if` and `else`, and of
-// casts by names alone: there with the square of the chain.
+// After `gcc -E` 3,811 of the 3,812 files of GCC 12's c-torture, zlib 1.2, bzip2 1.0, Lua 5.4 and cJSON 1.7 parse that
+// GCC takes and that aren't too long (`bench/corpora`); the other one isn't UTF-8. Twice the tokens take 1.85 times the
+// time; the slowest file is 20001226-1.c with 204,831 tokens and 1.4 s. Time grows as the text does, but in chains of
+// `if` and `else`, and of casts by names alone: there with the square of the chain.
 //
 // A grammar can't know which names are types, so what is read goes by its shape. `(a)` is an expression, also in
 // `sizeof (a)`; `(a) b` and `(a) (b)` are casts, but `(a) - b` isn't, nor is it with `+`, `*` or `&`. In a block

@@ -9,7 +9,9 @@
 //
 // Of 125 test shaders of glslang 12.0.0 without definitions, whose stored results have no error, 124 parse without the
 // preprocessor. The other one has a line that only the preprocessor makes GLSL of. As the preprocessor leaves them,
-// 654 of its 655 test shaders parse (`bench/corpora`); the other one has attributes round a function's head.
+// 654 of its 655 test shaders parse (`bench/corpora`); the other one has attributes round a function's head. Twice the
+// tokens take 1.64 times the time; the slowest file is spv.subgroupExtendedTypesArithmetic.comp with 11,101 tokens and
+// 0.1 s.
 grammar GLSL;
 
 shader : external* EOF ;

@@ -18,7 +18,8 @@
 // arguments (`List<String>=`, which javac alone takes); what is a preview in Java 17, as patterns in switch.
 //
 // Of guava-libraries 31.1 (Debian's source package) all 3,050 files parse by a second parser that follows such grammars,
-// and all 3,039 that `bench/corpora` takes by `perses`.
+// and all 3,039 that `bench/corpora` takes by `perses`. Twice the tokens take 1.92 times the time; the slowest is
+// CharMatcherBenchmark.java with 40,946 tokens and 0.6 s.
 grammar Java;
 
 // Files

@@ -8,7 +8,8 @@
 // aren't replaced yet, a comment within a number, and SystemVerilog.
 //
 // Of the 339 test files of Yosys 0.23 that Yosys reads without SystemVerilog 337 parse (`bench/corpora`). One of the
-// others has a comment within a number, and one SystemVerilog's `i++`.
+// others has a comment within a number, and one SystemVerilog's `i++`. Twice the tokens take 1.56 times the time; the
+// slowest file is luttrees.v of gatemate with 30,213 tokens and 0.1 s.
 grammar Verilog;
 
 source : description* EOF ;

@@ -14,8 +14,9 @@
 //
 // Of the 36,932 different statements in the tests of SQLite 3.40.1 (test/*.test) that it accepts, 36,928 parse by a
 // second parser that follows such grammars; the other four end in an open comment. Of 746 dumps of these tests'
-// databases, each of at most 256 KiB, all parse. `perses` parsed samples: 99 files of statements, and 290 of 291 dumps,
-// of which one isn't UTF-8.
+// databases, each of at most 256 KiB, all parse. `perses` takes 2,096 of the 2,101 files of statements and dumps that
+// aren't too long (`bench/corpora`). Twice the tokens take 1.57 times the time; the slowest file is joinD.test with
+// 76,477 tokens and 0.7 s.
 grammar SQL;
 
 script : (statement? ';')* statement? EOF ;
