@@ -47,7 +47,8 @@ pub returns-in-Err-Bad-clause-bad_record : goal.returns-in-Err-Bad-clause-bad_re
 returns-in-Err-Bad-clause-bad_record c = λ offset e.
     let is : c.len-len.result - length c.loop-event.rest.now ≡ offset = cc in
     is_bad c.args.bytes.now c.args.head c.loop-event.events.items c.loop-event.rest.now c.loop-event.records offset
-    c.loop-event.invariant.events c.loop-event.invariant.records (omega (arith, c.len-len.ensures)) (rw (c.version-version.ensures, c.in-Err-Bad.field-0-is) at c.in-Err-Bad.ensures)
+    c.loop-event.invariant.events c.loop-event.invariant.records (omega (arith, c.len-len.ensures))
+    (rw (c.version-version.ensures, c.in-Err-Bad.field-0-is) at c.in-Err-Bad.ensures)
     (omega (arith, is, c.len-len.ensures, c.loop-event.invariant.few))
 
 pub to_event-requires : goal.to_event-requires
