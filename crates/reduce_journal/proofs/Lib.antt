@@ -4,6 +4,7 @@ mod DecimalNumbers
 mod Events
 mod Ends
 mod Heads
+mod BegunHeads
 mod Journals
 mod KeptRecords
 mod Pieces

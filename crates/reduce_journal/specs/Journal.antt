@@ -76,6 +76,10 @@ IsStart (Version2 digest) events start = start ≡ Some digest
 abbrev pub LacksHead : List ℕ → Type 0
 LacksHead bytes = (first : Head) (rest : List ℕ) → IsHead first → bytes ≢ head_text first ++ rest
 
+-- these bytes are the beginning of a head, and not all of it
+abbrev pub IsHeadBegun : List ℕ → Type 0
+IsHeadBegun bytes = (first : Head) × (rest : List ℕ) × IsHead first × (rest ≢ []) × (head_text first ≡ bytes ++ rest)
+
 -- these bytes begin with an event that may come after so many records
 abbrev pub BeginsWithEvent : (version records : ℕ) → List ℕ → Type 0
 BeginsWithEvent version records bytes = (event : Event) × (rest : List ℕ) × MayFollow version records event × (bytes ≡ event_text event ++ rest)

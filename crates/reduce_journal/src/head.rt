@@ -1,7 +1,9 @@
 //! The head of a journal.
 
-ghost use Rattle.std.specs.Prelude.{◌≡◌, ℕ, List, ◌++◌, Some, IfNone, IfSome};
-ghost use Rattle.reduce_journal.specs.Journal.{IsDigest, IsHead, LacksHead, head, head_text, version_of};
+ghost use Rattle.std.specs.Prelude.{◌≡◌, ◌↔◌, ℕ, List, ◌++◌, Some, IsTrue, IfNone, IfSome};
+ghost use Rattle.std.specs.List.{list_all};
+ghost use Rattle.reduce_journal.specs.Journal.{IsDigest, IsHead, IsHeadBegun, LacksHead, head, head_text, version_of};
+ghost use Rattle.reduce_journal.specs.inner.Digits.{is_lower_digit};
 
 use crate::digest::Digest;
 use arrayvec::ArrayVec;
@@ -13,7 +15,10 @@ const FIRST: &[u8] = b"perses-journal 1\n";
 /// What the head of version 2 has before the digits of its digest.
 const SECOND: &[u8] = b"perses-journal 2\nS ";
 
-/// Where those digits end.
+/// The hexadecimal digits that are written.
+const DIGITS: &[u8] = b"0123456789abcdef";
+
+/// Where the digits of a head of version 2 end.
 const DIGITS_END: usize = 83;
 
 /// What a journal begins with.
@@ -72,4 +77,23 @@ pub(crate) fn head_at(bytes: &[u8]) -> Option<(Head, &[u8])>
     let head = head_of(&start);
     let rest = bytes.strip_prefix(head.as_slice())?;
     Some((Head::Version2(start), rest))
+}
+
+/// Whether these bytes are the beginning of a head, and not all of it.
+pub fn is_head_begun(bytes: &[u8]) -> bool
+    ensures { IsTrue result ↔ IsHeadBegun bytes.now }
+{
+    match bytes.strip_prefix(SECOND) {
+        Some(digits) => bytes.len() <= DIGITS_END && are_digits(digits),
+        None => {
+            SECOND.starts_with(bytes) || (bytes.len() < FIRST.len() && FIRST.starts_with(bytes))
+        }
+    }
+}
+
+/// Whether each byte is a hexadecimal digit as they are written.
+fn are_digits(bytes: &[u8]) -> bool
+    ensures { result ≡ list_all is_lower_digit bytes.now }
+{
+    bytes.iter().all(|byte| DIGITS.contains(byte))
 }

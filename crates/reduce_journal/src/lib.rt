@@ -5,7 +5,8 @@
 //! journal, with the [`Digest`] of its start, and [`write_event`] adds to it; [`read_journal`] reads it
 //! back, also where the run that wrote it was killed, and reads version 1 too. [`Journal::kept`] has its
 //! verdicts, with which a run that resumes it begins. [`report`] makes the five lines that a reduction
-//! ends with, and [`first_lines`] the first four of them. Bytes are a journal of one start and one
+//! ends with, and [`first_lines`] the first four of them. Where a run was killed before the head was whole,
+//! [`is_head_begun`] tells what it left from what is no journal. Bytes are a journal of one start and one
 //! history at most ([`equal_bytes_have_one_history`]); what a killed run left, with the whole head, is a
 //! journal of its first events ([`prefixes_are_read`]). So a history is kept:
 //!
@@ -30,7 +31,7 @@ pub use counts::{Counts, first_lines, report};
 pub use digest::{Digest, digest_of};
 pub use event::Event;
 pub use faults::Memory;
-pub use head::Head;
+pub use head::{Head, is_head_begun};
 pub use laws::{
     bytes_are_journals_or_bad, equal_bytes_have_one_history, prefixes_are_read, written_is_read,
 };
