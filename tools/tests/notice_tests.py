@@ -130,7 +130,7 @@ class Notices(unittest.TestCase):
 
     def test_full_standard_output(self):
         with open("/dev/full", "w") as full:
-            done = subprocess.run([PROGRAM, "normal", "--grammar", "g"], cwd=self.folder, stdout=full, stderr=subprocess.PIPE, text=True)
+            done = subprocess.run([PROGRAM, "normal", "--grammar", "g"], cwd=self.folder, stdout=full, stderr=subprocess.PIPE, text=True, env=self.environment({}))
         self.assertEqual((done.returncode, done.stderr), (4, "perses: standard output: No space left on device (os error 28)\n"))
 
     def test_grammars(self):
