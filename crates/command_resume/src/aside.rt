@@ -21,8 +21,8 @@ pub struct SetAside {
 }
 
 impl SetAside {
-    /// After the run, which ended with this status. Where it came to its end, or didn't begin the journal
-    /// anew, the journal has all, and what was set aside is removed. At 1, 11 and 12 it stays.
+    /// After the run, which ended with this status. At 1, 11 and 12 what was set aside stays. At each other
+    /// one it is removed: the run came to its end, or didn't begin the journal anew.
     pub fn leave<R: Files>(self, rt: &R, status: u8) -> Result<(), AsideFault> {
         let SetAside { path } = self;
         if [1, 11, 12].contains(&status) {
