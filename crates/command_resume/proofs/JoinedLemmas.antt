@@ -1,7 +1,7 @@
 -- Two journals in one: event by event, what its records say, and that it can be read again.
-use Rattle.std.proofs.Common.{◌≡◌, ◌<◌, ℕ, zero, suc, ◌+◌, List, [], ◌∷◌, ◌++◌, Bool, true, false, cond, Option, Some, None, Result, Ok, Err, is_some}
+use Rattle.std.proofs.Common.{◌≡◌, ◌<◌, ℕ, zero, suc, ◌+◌, List, [], ◌∷◌, ◌++◌, Bool, true, false, cond, Option, Some, None, is_some}
 use Rattle.std.proofs.Common.{get_or, length, take, refl, sym, ap, ◌∙◌, subst, arith, append_assoc, append-nil}
-use Rattle.std.specs.Prelude.{IfOk, IfSome, if◌then◌else◌}
+use Rattle.std.specs.Prelude.{if◌then◌else◌}
 use Rattle.std.specs.List.{flat_map}
 use Rattle.std.specs.Option.{option_map}
 use Rattle.std.specs.Str.{bytes_eq}
@@ -18,7 +18,7 @@ use Rattle.reduce_journal.specs.declared.event.Event.{Event}
 use Rattle.reduce_journal.specs.declared.event.Event.TheVariants.{Recorded, Committed}
 use Rattle.reduce_journal.specs.declared.read.Journal.{Journal}
 use Rattle.reduce_journal.specs.History.{History, HasShortText, MayFollow, AllMayFollow, IsHistory, records_of, records_with}
-use Rattle.reduce_journal.specs.Journal.{IsReadOf, event_text, head, journal_text, version_of}
+use Rattle.reduce_journal.specs.Journal.{event_text, head, journal_text, version_of}
 use Rattle.reduce_journal.proofs.Lent.{count_after}
 use Rattle.command_resume.specs.Joined.{IsOfBytes, added_to, joined}
 
@@ -181,11 +181,3 @@ one_written start events i e old mid new within at so_far added =
     added ∙ (ap (option_map (with_piece (event_text e))) so_far
     ∙ (two_pieces (journal_text start (take i events)) (event_text e) old
     ∙ ap (λ (piece : List ℕ). option_map (with_piece piece) old) (text_more start events i e within at)))
-
--- ---- what is read of a file
-
-pub of_bytes : {E : Type 0} (bytes : List ℕ) (found : Result (Option Journal) E) → IfOk found (λ o. IfSome o (IsReadOf bytes))
-    → IfOk found (λ o. IfSome o IsOfBytes)
-of_bytes bytes (Ok (Some journal)) is = (bytes, is)
-of_bytes bytes (Ok None) is = tt
-of_bytes bytes (Err e) is = tt

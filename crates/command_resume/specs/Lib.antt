@@ -3,3 +3,4 @@ pub use Rattle.verdict_table.specs.Kept
 pub use Rattle.reduce_journal.specs.History
 pub use Rattle.reduce_journal.specs.Journal
 pub mod Joined
+pub mod inner

@@ -26,18 +26,33 @@ pub enum AsideCause {
 }
 
 impl From<io::Error> for AsideCause {
+    ghost use Rattle.std.specs.Prelude.{◌≡◌};
+    ghost use Rattle.command_resume.specs.declared.fault.AsideCause.TheVariants.{Failed};
+
+    ghost from_gives = { λ reason cause. cause ≡ Failed reason };
+
     fn from(reason: io::Error) -> AsideCause {
         AsideCause::Failed { reason }
     }
 }
 
 impl From<Memory> for AsideCause {
+    ghost use Rattle.std.specs.Prelude.{◌≡◌};
+    ghost use Rattle.command_resume.specs.declared.fault.AsideCause.TheVariants.{Memory as OutOfMemory};
+
+    ghost from_gives = { λ _ cause. cause ≡ OutOfMemory };
+
     fn from(_: Memory) -> AsideCause {
         AsideCause::Memory
     }
 }
 
 impl From<AllocError> for AsideCause {
+    ghost use Rattle.std.specs.Prelude.{◌≡◌};
+    ghost use Rattle.command_resume.specs.declared.fault.AsideCause.TheVariants.{Memory as OutOfMemory};
+
+    ghost from_gives = { λ _ cause. cause ≡ OutOfMemory };
+
     fn from(_: AllocError) -> AsideCause {
         AsideCause::Memory
     }

@@ -1,13 +1,13 @@
 //! The files beside a journal's, and what they hold.
 
-ghost use Rattle.std.specs.Prelude.{IfOk, IfSome};
-ghost use Rattle.reduce_journal.specs.Journal.{IsReadOf};
+ghost use Rattle.std.specs.Prelude.{IfErr, IfOk, IfSome, option_map};
 ghost use Rattle.command_resume.specs.Joined.{IsOfBytes};
+ghost use Rattle.command_resume.specs.inner.Held.{IsAnswerOn, IsAnswerTo, IsAnswerToSome, IsUnread};
 
 use crate::fault::AsideCause;
 use command_ends::JOURNAL_LIMIT;
 use faults::Memory;
-use reduce_journal::{Journal, JournalFault, read_journal};
+use reduce_journal::{Journal, JournalFault, is_head_begun, read_journal};
 use script_gate_trait::Bytes;
 use std::alloc::Global;
 use std::io::{ErrorKind, Read};
@@ -17,12 +17,6 @@ use std::{fs, io};
 
 /// What a journal of each version begins with.
 const FIRST_BYTES: &[u8] = b"perses-journal ";
-
-/// What the head of the version that is written has before its digits.
-const BEFORE_DIGITS: &[u8] = b"perses-journal 2\nS ";
-
-/// The bytes of that head.
-const HEAD_BYTES: usize = 84;
 
 /// The paths of a journal and of the files beside it.
 #[derive(Drop)]
@@ -78,14 +72,10 @@ pub(crate) fn is_free<R: Files + AllocGlobal>(rt: &R, path: &str) -> io::Result<
     has_journal(rt, path)
 }
 
-/// Whether these bytes are the beginning of a head, and not all of it.
-fn is_begun(bytes: &[u8]) -> bool {
-    let is_front = BEFORE_DIGITS.starts_with(bytes) || bytes.starts_with(BEFORE_DIGITS);
-    bytes.len() < HEAD_BYTES && is_front
-}
-
 /// The bytes of an ordinary file, at most one more than a journal may have; None where it isn't there.
-fn bytes_of<R: Files + AllocGlobal>(rt: &R, path: &str) -> Result<Option<Vec<u8>>, AsideCause> {
+fn bytes_of<R: Files + AllocGlobal>(rt: &R, path: &str) -> Result<Option<Vec<u8>>, AsideCause>
+    ensures { IfErr result IsUnread }
+{
     match fs::metadata(rt, path) {
         Ok(found) if found.is_file() => {}
         Ok(_) => return Err(AsideCause::NoJournal),
@@ -101,15 +91,32 @@ fn bytes_of<R: Files + AllocGlobal>(rt: &R, path: &str) -> Result<Option<Vec<u8>
 
 /// The journal of these bytes; None where they are the beginning of one without a start.
 fn begun_journal(alloc: Global, bytes: &Bytes) -> Result<Option<Journal>, AsideCause>
-    ensures { IfOk result (λ found. IfSome found (IsReadOf bytes.now)) }
+    ensures { IsAnswerOn bytes.now result }
 {
+    if is_head_begun(bytes.as_slice()) {
+        return Ok(None);
+    }
     match read_journal(alloc, bytes) {
         Ok(journal) if journal.start.is_none() => Ok(None),
         Ok(journal) => Ok(Some(journal)),
-        Err(JournalFault::BadHead) if is_begun(bytes.as_slice()) => Ok(None),
         Err(JournalFault::Memory) => Err(AsideCause::Memory),
-        Err(_) => Err(AsideCause::NoJournal),
+        Err(JournalFault::BadHead) => Err(AsideCause::NoJournal),
+        Err(JournalFault::BadRecord { .. }) => Err(AsideCause::NoJournal),
     }
+}
+
+/// The journal of a file of these bytes; None where it isn't there, or was begun and has no event.
+fn held_journal(alloc: Global, held: Option<Vec<u8>>) -> Result<Option<Journal>, AsideCause>
+    ensures { IsAnswerTo (option_map (λ bytes. bytes.items) held) result }
+{
+    let Some(found) = held else {
+        return Ok(None);
+    };
+    if found.len() as u64 > JOURNAL_LIMIT {
+        return Err(AsideCause::TooLong);
+    }
+    let bytes = Bytes::from_vec(found)?;
+    begun_journal(alloc, &bytes)
 }
 
 /// The journal that a file holds; None where it isn't there, or was begun and has no event.
@@ -117,14 +124,9 @@ pub(crate) fn journal_in<R: Files + AllocGlobal>(
     rt: &R,
     path: &str,
 ) -> Result<Option<Journal>, AsideCause>
-    ensures { IfOk result (λ found. IfSome found IsOfBytes) }
+    ensures journal { IfOk result (λ found. IfSome found IsOfBytes) }
+    ensures answer { IsAnswerToSome result }
 {
-    let Some(found) = bytes_of(rt, path)? else {
-        return Ok(None);
-    };
-    if found.len() as u64 > JOURNAL_LIMIT {
-        return Err(AsideCause::TooLong);
-    }
-    let bytes = Bytes::from_vec(found)?;
-    begun_journal(rt.alloc(), &bytes)
+    let held = bytes_of(rt, path)?;
+    held_journal(rt.alloc(), held)
 }

@@ -57,7 +57,8 @@ fn add_missing(events: &mut Vec<Event>, known: &Kept, event: &Event) -> Result<(
 
 /// The digest of the start of both journals, where they have one and the same.
 pub(crate) fn common_start(one: &Journal, other: &Journal) -> Option<Digest>
-    ensures { IfSome result (λ start. (one.now.start ≡ Some start) × (other.now.start ≡ Some start)) }
+    ensures start { IfSome result (λ start. (one.now.start ≡ Some start) × (other.now.start ≡ Some start)) }
+    ensures each { (start : Digest) → one.now.start ≡ Some start → other.now.start ≡ Some start → result ≡ Some start }
 {
     let start = one.start?;
     let found = other.start?;

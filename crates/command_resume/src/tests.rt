@@ -1,7 +1,7 @@
 //! Journals that are joined. Their start is `a`, a newline, `b` and a newline.
 
 use crate::joining::{common_start, joined};
-use reduce_journal::{Event, Journal, digest_of, read_journal};
+use reduce_journal::{Event, Journal, digest_of, is_head_begun, read_journal};
 use script_gate_trait::{Bytes, Verdict};
 use std::alloc::Global;
 use std::test::Fail;
@@ -170,4 +170,17 @@ fn tells_starts_apart(rt: HostRuntime) -> Result<(), Fail> {
     assert_eq!(rt; common_start(&torn, &other), None);
     assert_eq!(rt; common_start(&empty, &empty), None);
     Ok(())
+}
+
+#[test]
+fn knows_a_head_that_is_begun(rt: HostRuntime) {
+    assert!(rt; is_head_begun(b""));
+    assert!(rt; is_head_begun(b"perses-journal 1"));
+    assert!(rt; is_head_begun(b"perses-journal 2\nS "));
+    assert!(rt; is_head_begun(b"perses-journal 2\nS 87f"));
+    assert!(rt; is_head_begun(&OTHER[..83]));
+    assert!(rt; !is_head_begun(OTHER));
+    assert!(rt; !is_head_begun(b"perses-journal 1\n"));
+    assert!(rt; !is_head_begun(b"perses-journal 2\nS 87F"));
+    assert!(rt; !is_head_begun(b"perses-journal 3"));
 }

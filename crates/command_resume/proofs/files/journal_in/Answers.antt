@@ -1,5 +1,6 @@
-use Rattle.command_resume.proofs.JoinedLemmas.{of_bytes}
+use Rattle.std.specs.Prelude.{option_map}
+use Rattle.command_resume.proofs.HeldLemmas.{of_answer}
 use Rattle.command_resume.proofs.files.journal_in.Goals as goal
 
-pub returns : goal.returns
-returns g c = of_bytes c.in_ok-bytes.bytes c.begun_journal.result c.begun_journal.ensures
+pub returns-clause-journal : goal.returns-clause-journal
+returns-clause-journal g c = of_answer (option_map (λ bytes. bytes.items) c.in_ok-held.held) c.held_journal.result c.held_journal.ensures
