@@ -4,6 +4,7 @@ mod Spans
 mod SymbolEnds
 mod Pooled
 mod Numbered
+mod Linked
 mod AllPositions
 mod Greatest
 mod Choosing

@@ -1,5 +1,5 @@
 -- Rising lists of positions.
-use Rattle.std.proofs.Common.{◌≡◌, ℕ, zero, suc, ◌+◌, ◌<◌, ◌≤◌, ◌⊎◌, inl, inr, List, ◌∷◌, ◌++◌, length, get_or, take}
+use Rattle.std.proofs.Common.{◌≡◌, ℕ, zero, suc, ◌+◌, ◌-◌, ◌<◌, ◌≤◌, ◌⊎◌, inl, inr, List, [], ◌∷◌, ◌++◌, length, get_or, take}
 use Rattle.std.proofs.Common.{drop, length-append, nat_cmp, refl, sym, ap, ◌∙◌, subst, arith}
 use Rattle.std.proofs.lemmas.List.{take-append-drop, take_more}
 use Rattle.std.proofs.lemmas.List.Elements.{Contains-append_left, Contains-append_right, Contains-append_cases, Contains-push_cases, Contains-get_or}
@@ -148,6 +148,25 @@ search_missing xs x s i b r e =
   where
     by : (i ≤ length xs) × ((k : ℕ) → k < i → get_or xs k 0 < x) × ((k : ℕ) → i ≤ k → k < length xs → x < get_or xs k 0) → IsStrictlyIncreasing (insert xs i x)
     by (l, low, high) k h = insert_rises xs i x r l low high (length (insert xs i x)) (length-insert xs i x l) k h
+
+-- ---- a position that is greater than all others
+
+insert_last : (xs : List ℕ) (y : ℕ) → insert xs (length xs) y ≡ xs ++ y ∷ []
+insert_last [] y = refl
+insert_last (x ∷ xs) y = ap (λ l. x ∷ l) (insert_last xs y)
+
+pub pushed : (xs : List ℕ) (y : ℕ) → IsWith xs y (xs ++ y ∷ [])
+pushed xs y = subst (IsWith xs y) (insert_last xs y) (inserted xs (length xs) y)
+
+pub push_rises : (xs : List ℕ) (y : ℕ) → IsStrictlyIncreasing xs → ((k : ℕ) → k < length xs → get_or xs k 0 < y) → IsStrictlyIncreasing (xs ++ y ∷ [])
+push_rises xs y r low =
+    let rises : IsStrictlyIncreasing (insert xs (length xs) y) =
+    λ k h. insert_rises xs (length xs) y r (omega arith) low (λ j m l. absurd (omega (arith, m, l))) (length (insert xs (length xs) y))
+    (length-insert xs (length xs) y (omega arith)) k h in
+    subst IsStrictlyIncreasing (insert_last xs y) rises
+
+pub all_below : (xs : List ℕ) (y : ℕ) → IsStrictlyIncreasing xs → 0 < length xs → get_or xs (length xs - 1) 0 < y → (k : ℕ) → k < length xs → get_or xs k 0 < y
+all_below xs y r some l k h = omega (arith, not_falling xs r k (length xs - 1) (omega (arith, h)) (omega (arith, some)), l)
 
 search_missed : (xs : List ℕ) (x : ℕ) (s : Result ℕ ℕ) (i : ℕ) → IsBinarySearchResult (λ y. nat_cmp y x) xs s → IsStrictlyIncreasing xs → s ≡ Err i
     → (i ≤ length xs) × ((k : ℕ) → k < i → get_or xs k 0 < x) × ((k : ℕ) → i ≤ k → k < length xs → x < get_or xs k 0)

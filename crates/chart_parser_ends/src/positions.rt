@@ -1,6 +1,6 @@
 //! Rising lists of positions.
 
-ghost use Rattle.std.specs.Prelude.{◌≡◌, ℕ, ◌<◌, ◌≤◌, ◌↔◌, ◌+◌, ◌^◌, length, slice_index, IfOk, OnOk, IsTrue};
+ghost use Rattle.std.specs.Prelude.{◌≡◌, ℕ, ◌<◌, ◌≤◌, ◌↔◌, ◌+◌, ◌^◌, length, slice_index, slice_index_or, IfOk, OnOk, IsTrue};
 ghost use Rattle.std.specs.List.{Contains};
 ghost use Rattle.std.specs.List.Sorted.{IsStrictlyIncreasing};
 ghost use Rattle.chart_parser_ends.specs.Positions.{HasAll, IsGrown, IsLastAmong};
@@ -79,13 +79,24 @@ pub(crate) fn last_common(positions: &[u32], others: &[u32]) -> Option<u32>
     }
 }
 
-/// Adds the position, unless it is among them.
+/// Whether the position is greater than all of them.
+fn is_past(positions: &[u32], position: u32) -> bool
+    requires { IsStrictlyIncreasing positions.now }
+    ensures { IsTrue result → (k : ℕ) → k < length positions.now → slice_index_or positions.now k 0 < position }
+{
+    let count = positions.len();
+    count == 0 || positions[count - 1] < position
+}
+
+/// Adds the position, unless it is among them. One that is greater than all of them takes no search.
 pub(crate) fn add(positions: &mut Vec<u32>, position: u32) -> Result<(), Memory>
     requires { IsStrictlyIncreasing positions.old.items }
     ensures rising { OnOk result (IsStrictlyIncreasing positions.new.items) }
     ensures with { OnOk result (IsWith positions.old.items position positions.new.items) }
 {
-    if let Err(at) = positions.binary_search(&position) {
+    if is_past(positions, position) {
+        positions.push(position)?;
+    } else if let Err(at) = positions.binary_search(&position) {
         positions.insert(at, position)?;
     }
     Ok(())

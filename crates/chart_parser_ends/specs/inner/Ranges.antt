@@ -1,5 +1,5 @@
--- Entries whose ends are in one list, and the numbers of their ranges.
-use Rattle.std.specs.Prelude.{◌≡◌, ℕ, ◌+◌, ◌≤◌, Bool, ◌&&◌, List, length, map, Option, Some, None, nat_eq, slice_get, slice_range}
+-- Entries whose ends are in one list, and how their ranges are found.
+use Rattle.std.specs.Prelude.{◌≡◌, ℕ, ◌+◌, ◌<◌, ◌≤◌, Bool, ◌&&◌, List, length, map, Option, Some, None, nat_eq, slice_get, slice_index_or, slice_range}
 use Rattle.std.specs.HashMap.{HashMap, get}
 use Rattle.std.specs.List.{All, Contains}
 use Rattle.chart_parser_ends.specs.declared.entries.EndsRange.{EndsRange}
@@ -16,20 +16,35 @@ entries_in ends = map (entry_in ends)
 abbrev pub AreWithin : List ℕ → List EndsRange → Type 0
 AreWithin ends = All (λ r. r.from + r.count ≤ length ends)
 
--- whether two pairs of a rule and a position are equal
-abbrev pub same_key : ℕ × ℕ → ℕ × ℕ → Bool
-same_key p q = nat_eq p.0 q.0 && nat_eq p.1 q.1
-
 -- The range is that of the rule at the position `first`.
 pub record IsRangeOf (rule first : ℕ) (r : EndsRange) : Type 0 where
   pub rule_is : r.rule ≡ rule
   pub first_is : r.first ≡ first
 
--- It is the number of a range of the rule at the position, and there is none where no range is of these.
+-- The range is in no chain.
+abbrev pub IsApart : EndsRange → Type 0
+IsApart r = 32 < r.depth
+
+-- It is the link to the last of the first n ranges that is in the chain of the position `first`: one more than its number, and 0 where none is.
+pub record IsLink (ranges : List EndsRange) (n first link : ℕ) : Type 0 where
+  pub bound : link ≤ n
+  pub at : (i : ℕ) (r : EndsRange) → link ≡ i + 1 → slice_get ranges i ≡ Some r → r.first ≡ first
+  pub last : (i : ℕ) (r : EndsRange) → link ≤ i → i < n → slice_get ranges i ≡ Some r → r.first ≡ first → IsApart r
+
+-- Each range has the link to the last one before it in the chain of its position, and the list has at each position the link to the last one.
+pub record AreLinked (ranges : List EndsRange) (last : List ℕ) : Type 0 where
+  pub earlier : (i : ℕ) (r : EndsRange) → slice_get ranges i ≡ Some r → IsLink ranges i r.first r.earlier
+  pub links : (first : ℕ) → IsLink ranges (length ranges) first (slice_index_or last first 0)
+
+-- whether two pairs of a rule and a position are equal
+abbrev pub same_key : ℕ × ℕ → ℕ × ℕ → Bool
+same_key p q = nat_eq p.0 q.0 && nat_eq p.1 q.1
+
+-- It is the number of a range of the rule at the position; there is none only where no range of theirs is in no chain.
 abbrev pub IsNumberOf : List EndsRange → ℕ → ℕ → Option ℕ → Type 0
-IsNumberOf ranges rule first None = (r : EndsRange) → Contains ranges r → ¬ IsRangeOf rule first r
+IsNumberOf ranges rule first None = (r : EndsRange) → Contains ranges r → IsRangeOf rule first r → ¬ IsApart r
 IsNumberOf ranges rule first (Some number) = (r : EndsRange) × (slice_get ranges number ≡ Some r) × IsRangeOf rule first r
 
--- The map has the number of a range for each rule and position that a range is of, and for no other.
+-- The map has the number of a range for each rule and position with a range that is in no chain.
 abbrev pub IsNumbered : {S : Type 0} → List EndsRange → HashMap (ℕ × ℕ) ℕ S → Type 0
 IsNumbered ranges numbers = (rule first : ℕ) → IsNumberOf ranges rule first (get same_key numbers (rule, first))

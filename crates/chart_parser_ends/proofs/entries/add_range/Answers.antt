@@ -1,12 +1,19 @@
-use Rattle.std.proofs.Common.{◌++◌, ◌∷◌, [], sym, ap, ◌∙◌, subst}
-use Rattle.chart_parser_ends.specs.inner.Ranges.{IsNumbered}
-use Rattle.chart_parser_ends.proofs.Numbered.{numbered_more}
+use Rattle.std.proofs.Common.{arith}
+use Rattle.chart_parser_ends.specs.inner.Ranges.{AreLinked, IsNumbered}
+use Rattle.chart_parser_ends.proofs.Linked.{added_or_not, linked_apart}
+use Rattle.chart_parser_ends.proofs.Numbered.{numbered_same}
 use Rattle.chart_parser_ends.proofs.entries.add_range.Goals as goal
 
-pub returns-clause-numbered : goal.returns-clause-numbered
-returns-clause-numbered c = λ numbered.
+pub returns-then-range-gt-CHAIN-clause-linked : goal.returns-then-range-gt-CHAIN-clause-linked
+returns-then-range-gt-CHAIN-clause-linked c linked =
     let ranges = c.args.ranges.now.items in
-    let pushed = rw c.unwrap.ensures at c.push.ensures.items in
-    subst (λ rs. IsNumbered rs c.insert.new.self) (sym (pushed ∙ ap (λ rs. rs ++ c.args.range ∷ []) c.reserve.ensures.items))
-    (numbered_more ranges c.args.numbers.now c.insert.new.self c.args.range c.len-number.result
-    (c.len-number.ensures ∙ c.args.ranges.now.ok.0) c.in_ok-insert.ensures.updates.0 numbered)
+    let last = c.args.last.now.items in
+    added_or_not (λ rs. AreLinked rs last) ranges c.add_numbered.new.ranges.items c.args.range c.add_numbered.result c.add_numbered.ensures.ok
+    c.add_numbered.ensures.err linked (linked_apart ranges last c.args.range linked c.requires.earlier (omega (arith, c.if-range-gt-CHAIN.true)))
+
+pub returns-else-range-gt-CHAIN-clause-numbered : goal.returns-else-range-gt-CHAIN-clause-numbered
+returns-else-range-gt-CHAIN-clause-numbered c numbered =
+    let ranges = c.args.ranges.now.items in
+    let numbers = c.args.numbers.now in
+    added_or_not (λ rs. IsNumbered rs numbers) ranges c.add_chained.new.ranges.items c.args.range c.add_chained.result c.add_chained.ensures.ok
+    c.add_chained.ensures.err numbered (numbered_same ranges numbers c.args.range (omega (arith, c.if-range-gt-CHAIN.false)) numbered)

@@ -10,12 +10,13 @@ invariant_of-self-2 c =
     let more = c.args.ends.now in
     let rs = c.self.inside.ranges.items in
     let items = rw c.in_ok-extend_from_slice.was at c.extend_from_slice.ensures.items in
-    let r : EndsRange = record { rule = c.args.rule; first = c.args.first; from = c.len-from.result; count = length more } in
+    let r : EndsRange = record { rule = c.args.rule; first = c.args.first; from = c.len-from.result; count = length more; earlier = c.link_at-earlier.result; depth = c.depth_after.result } in
     let from : c.len-from.result ≡ length ends = omega (arith, c.len-from.ensures, c.self.inside.ends.ok.0) in
     record {
       within =
           within_added ends more c.extend_from_slice.new.self.items rs c.add_range.new.ranges.items r items c.self.invariant.within from refl c.add_range.result
           c.add_range.ensures.ok c.add_range.ensures.err;
+      linked = c.add_range.ensures.linked c.self.invariant.linked;
       numbered = c.add_range.ensures.numbered c.self.invariant.numbered;
     }
 
@@ -25,7 +26,7 @@ returns-clause-ok c =
     let more = c.args.ends.now in
     let rs = c.self.inside.ranges.items in
     let items = rw c.in_ok-extend_from_slice.was at c.extend_from_slice.ensures.items in
-    let r : EndsRange = record { rule = c.args.rule; first = c.args.first; from = c.len-from.result; count = length more } in
+    let r : EndsRange = record { rule = c.args.rule; first = c.args.first; from = c.len-from.result; count = length more; earlier = c.link_at-earlier.result; depth = c.depth_after.result } in
     let from : c.len-from.result ≡ length ends = omega (arith, c.len-from.ensures, c.self.inside.ends.ok.0) in
     on_ok_weaker c.add_range.result
     (entry_added ends more c.extend_from_slice.new.self.items rs c.add_range.new.ranges.items r items c.self.invariant.within from refl c.args.self.now
@@ -37,7 +38,7 @@ returns-clause-err c =
     let more = c.args.ends.now in
     let rs = c.self.inside.ranges.items in
     let items = rw c.in_ok-extend_from_slice.was at c.extend_from_slice.ensures.items in
-    let r : EndsRange = record { rule = c.args.rule; first = c.args.first; from = c.len-from.result; count = length more } in
+    let r : EndsRange = record { rule = c.args.rule; first = c.args.first; from = c.len-from.result; count = length more; earlier = c.link_at-earlier.result; depth = c.depth_after.result } in
     let from : c.len-from.result ≡ length ends = omega (arith, c.len-from.ensures, c.self.inside.ends.ok.0) in
     on_err_weaker c.add_range.result
     (none_added ends more c.extend_from_slice.new.self.items rs c.add_range.new.ranges.items r items c.self.invariant.within from refl c.args.self.now
