@@ -10,8 +10,9 @@
 //
 // Not covered: opcodes and types that came after LLVM 14.
 //
-// Of the 7,271 files of `llvm/test/Transforms` in Debian's llvm-toolchain-14 7,262 parse (`bench/corpora`). Twice the
-// tokens take 1.60 times the time; the slowest file is amdgcn-intrinsics.ll with 35,628 tokens and 0.2 s.
+// Of the 7,271 files of `llvm/test/Transforms` in Debian's llvm-toolchain-14 7,269 parse (`bench/corpora`). Of the
+// other two one has no blank between a type and `addrspace`, and one a line that isn't IR. Twice the tokens take 1.71
+// times the time; the slowest file is amdgcn-intrinsics.ll with 35,628 tokens and 0.1 s.
 grammar LLVM;
 
 module : entry* EOF ;
@@ -137,7 +138,7 @@ incoming : '[' value ',' LOCAL ']' ;
 call : ('tail' | 'musttail' | 'notail')? 'call' callee ;
 callee : modifier* type value arguments attribute* bundles? ;
 arguments : '(' (argument (',' argument)*)? ')' ;
-argument : type attribute* value | 'metadata' (metadata | typedValue) ;
+argument : type attribute* value | 'metadata' (metadata | typedValue) | '...' ;
 bundles : '[' (bundle (',' bundle)*)? ']' ;
 bundle : STRING arguments ;
 variadicArgument : 'va_arg' typedValue ',' type ;
@@ -242,6 +243,7 @@ summaryField : LABEL? summaryValue ;
 // words
 
 LABEL : (NAME_CHARACTER+ | STRING) ':' ;
+INTEGER : '-'? [0-9]+ | [us] '0x' HEX+ ;
 INTEGER_TYPE : 'i' [0-9]+ ;
 WORD : [a-zA-Z_] [a-zA-Z_0-9]* ;
 LOCAL : '%' NAME ;
@@ -252,7 +254,6 @@ METADATA_NAME : '!' ([a-zA-Z\-$._] | '\\' HEX HEX) ([a-zA-Z\-$._0-9] | '\\' HEX 
 METADATA_STRING : '!' STRING ;
 ATTRIBUTES : '#' [0-9]+ ;
 SUMMARY_ID : '^' [0-9]+ ;
-INTEGER : '-'? [0-9]+ | [us] '0x' HEX+ ;
 FLOAT : [\-+]? [0-9]+ '.' [0-9]* ([eE] [\-+]? [0-9]+)? ;
 HEXADECIMAL : '0x' [KLMHR]? HEX+ ;
 CHARACTERS : 'c' STRING ;

@@ -6,8 +6,10 @@
 // commands may be names; those of terms, as `let` and `match`, may not. Not covered: strings with `\"` in them, as in
 // version 2.0, and names of other characters than the standard's.
 //
-// Of the 1,727 regression tests of cvc4 1.8 that aren't too long 1,717 parse (`bench/corpora`). Twice the tokens take
-// 2.07 times the time; the slowest file is error0.smt2 with 180,886 tokens and 1.2 s.
+// Of the 1,727 regression tests of cvc4 1.8 that aren't too long 1,717 parse (`bench/corpora`). Of the others five have
+// strings with `\"`, two name a function `match` or `lambda`, one has a term as an index, and two have commands that
+// aren't SMT-LIB's. Twice the tokens take 2.07 times the time; the slowest file is error0.smt2 with 180,886 tokens and
+// 1.2 s.
 grammar SMTLIB;
 
 script : command* EOF ;
