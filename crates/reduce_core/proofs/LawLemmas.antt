@@ -45,7 +45,7 @@ lines_end_minimal admits V start admitted stays has =
     let input : LineInput = of_input admits start in
     let is = lines_are_recursions admits (says_yes V) start in
     subst (λ (r : Reduction (List Line)). EndsWell (line_mode input) (AreOfStart input) IsLineEdit V r.state) (sym is)
-    (lent.ends_minimal (line_mode input) (AreOfStart input) IsLineEdit (line_lawful input) (line_tries_edits input) admitted V
+    (lent.ends_minimal (line_mode input) (AreOfStart input) IsLineEdit (λ lines. tt) (line_lawful input) (line_tries_edits input) admitted V
     (ap (λ (r : Reduction (List Line)). r.refused) (sym is) ∙ stays) (subst (λ (r : Reduction (List Line)). HasVerdicts V r.questions) is has))
 
 pub asks_candidates : AsksCandidates

@@ -44,6 +44,7 @@ line_keeps input = record {
   opening = tt;
   round = λ lines of_start. tries_selections (AreOfStart input) (λ keep. kept_of keep lines) (λ keep. Done) (length lines) true
       (λ keep selection. kept-subsequence keep lines (numbered_lines input.start) of_start) (λ keep remainder. tt);
+  phase = λ lines of_start. tt;
 }
 
 pub smaller-round : (lines : List Line) → EachIsSmaller (λ (l : List Line). length l) (length lines) (line_trials lines (list_start (length lines) true))
@@ -52,7 +53,7 @@ smaller-round lines =
     (becomes_smaller (λ (l : List Line). length l) (λ keep. kept_of keep lines) (λ keep. Done) (length lines) true (fewer-lines lines) (λ keep remainder. tt))
 
 pub line_lawful : (input : LineInput) → IsLawful (line_mode input) (AreOfStart input)
-line_lawful input = record { keeps = line_keeps input; smaller = λ lines of_start. smaller-round lines }
+line_lawful input = record { keeps = line_keeps input; smaller = λ lines of_start. smaller-round lines; phases = λ lines of_start. tt }
 
 pub line_tries_edits : (input : LineInput) → TriesEdits (line_mode input) (AreOfStart input) IsLineEdit
 line_tries_edits input lines other of_start edit =

@@ -28,10 +28,11 @@ module _ (admits : Admits) (start : List ℕ) where
     round =
         λ lines kept. tries_selections (λ (l : List Line). Unit {0}) (λ keep. kept_of keep lines) (λ keep. Done) (length lines) true (λ keep selection. tt)
         (λ keep remainder. tt);
+    phase = λ lines kept. tt;
   }
 
   any_lawful : IsLawful (line_mode input) (λ lines. Unit {0})
-  any_lawful = record { keeps = any_keeps; smaller = λ lines kept. smaller-round lines }
+  any_lawful = record { keeps = any_keeps; smaller = λ lines kept. smaller-round lines; phases = λ lines kept. tt }
 
   module _ (verdict : List ℕ → Bool) where
     -- what is tried in a round comes to its list step
@@ -48,11 +49,13 @@ module _ (admits : Admits) (start : List ℕ) where
     -- the rounds go by one round and what follows
     pub rounds-step : (lines : List Line) → rounds_of (line_recursion admits start) verdict lines
         ≡ after_round (line_round admits verdict lines)
-        (next_rounds (λ remaining. rounds_of (line_recursion admits start) verdict remaining) (line_round admits verdict lines))
+        (next_rounds (line_recursion admits start).next_phase (λ remaining. rounds_of (line_recursion admits start) verdict remaining)
+        (line_round admits verdict lines))
     rounds-step lines =
         all-same lines
         ∙ goes_by_its_rounds (line_mode input) (λ (l : List Line). Unit {0}) any_lawful verdict lines tt
-        ∙ (λ i. after_round (sym (round-is lines) i) (next_rounds (λ remaining. sym (all-same remaining) i) (sym (round-is lines) i)))
+        ∙ (λ i. after_round (sym (round-is lines) i)
+        (next_rounds (line_recursion admits start).next_phase (λ remaining. sym (all-same remaining) i) (sym (round-is lines) i)))
 
     -- a round with a yes leaves fewer lines
     pub fewer-after-yes : (lines : List Line) → (line_round admits verdict lines).changed ≡ true → length (line_round admits verdict lines).state < length lines

@@ -1,7 +1,8 @@
 -- The answers of a round: what one more makes of them, and how many can be missing.
-use Rattle.std.proofs.Common.{◌≡◌, ◌≢◌, ◌+◌, ◌<◌, ◌≤◌, ◌⊎◌, ℕ, suc, zero, Bool, true, false, ◌||◌, ◌&&◌, List, [], ◌∷◌, ◌++◌, Some, None, refl}
+use Rattle.std.proofs.Common.{◌≡◌, ◌≢◌, ◌+◌, ◌<◌, ◌≤◌, ◌⊎◌, ℕ, suc, zero, Bool, true, false, ◌||◌, ◌&&◌, List, [], ◌∷◌, ◌++◌, Option, Some, None, refl}
 use Rattle.std.proofs.Common.{sym, ap, ◌∙◌, append_assoc, cond, length, map, get_or, arith, inl, inr, ⊎_elim, subst}
 use Rattle.std.specs.Prelude.{unwrap_or}
+use Rattle.std.specs.Option.{option_map_or}
 use Rattle.std.specs.Cmp.Lexicographic.{pointwise}
 use Rattle.std.specs.List.{AllByRecursion}
 use Rattle.std.proofs.lemmas.List.{append-nil}
@@ -212,15 +213,25 @@ found-other fit len asked passed found is =
 pub answered-none : (verdict : List Bool → Bool) → IsAnswered verdict [] []
 answered-none verdict keep = refl
 
+-- the rounds of the next phase, if there is one, are at most so many
+phase-few : {T : Type 0} (go : T → Reduction T) (state : T) (n : ℕ) (o : Option T) → ((next : T) → (go next).rounds ≤ n)
+    → (option_map_or go o (ends_with state false)).rounds ≤ n
+phase-few go state n None each = omega arith
+phase-few go state n (Some next) each = each next
+
 -- each round adds one to the count, and there are at most so many
 rounds-within-few : {T : Type 0} (recursion : Recursion T) (verdict : List ℕ → Bool) (n : ℕ) (state : T) → (rounds_within n recursion verdict state).rounds ≤ n
 unfolding rounds_within
 rounds-within-few recursion verdict zero state = omega arith
 rounds-within-few {T = T} recursion verdict (suc n) state =
     let last : RoundEnd T = recursion.round verdict state in
-    let few : (next_rounds (λ remaining. rounds_within n recursion verdict remaining) last).rounds ≤ n =
-    cond_both last.changed (rounds_within n recursion verdict last.state) (ends_with last.state false) (λ (r : Reduction T). r.rounds ≤ n)
-    (λ _. rounds-within-few recursion verdict n last.state) (λ _. omega arith) in
+    let few : (next_rounds recursion.next_phase (λ remaining. rounds_within n recursion verdict remaining) last).rounds ≤ n =
+    cond_both last.changed (rounds_within n recursion verdict last.state)
+    (option_map_or (λ remaining. rounds_within n recursion verdict remaining) (recursion.next_phase last.state) (ends_with last.state false))
+    (λ (r : Reduction T). r.rounds ≤ n)
+    (λ _. rounds-within-few recursion verdict n last.state)
+    (λ _. phase-few (λ remaining. rounds_within n recursion verdict remaining) last.state n (recursion.next_phase last.state)
+    (λ next. rounds-within-few recursion verdict n next)) in
     omega arith
 
 pub rounds-few : (admits : Admits) (verdict : List ℕ → Bool) (start : List ℕ) (lines : List Line)
@@ -245,7 +256,7 @@ module _ (admits : Admits) (verdict : List ℕ → Bool) (start : List ℕ) (lin
   remains : left ≡ end.state
   remains = left_is ∙ ap (λ (p : Outcome). kept_of p.result lines) round_is
 
-  by-parts : (later : Reduction (List Line)) → later ≡ next_rounds go end
+  by-parts : (later : Reduction (List Line)) → later ≡ next_rounds (line_recursion admits start).next_phase go end
       → record later { questions = texts ++ later.questions; rounds = later.rounds + 1 } ≡ go lines
   by-parts later later_is =
       (λ i. record (later_is i) { questions = asked i ++ (later_is i).questions; rounds = (later_is i).rounds + 1 })

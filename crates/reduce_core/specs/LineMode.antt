@@ -1,5 +1,5 @@
 -- Mode `lines` of reductions by rounds, as what it tries: a state is some of the start's lines, and a round is one list step over them.
-use Rattle.std.specs.Prelude.{ℕ, true, List, length}
+use Rattle.std.specs.Prelude.{ℕ, true, List, None, length}
 use Rattle.reduce_step.specs.Plan.{Plan}
 use Rattle.list_ddmin.specs.ListStep.{kept_of}
 use Rattle.list_ddmin.specs.Machine.{State, start as list_start}
@@ -29,6 +29,8 @@ line_mode input = record {
   size = λ lines. length lines;
   opening = Done;
   round = λ lines. line_trials lines (list_start (length lines) true);
+  measure = λ lines. length lines;
+  next_phase = λ lines. None;
 }
 
 -- what holds of each state: it has some of the start's lines, in their order

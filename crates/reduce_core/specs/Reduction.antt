@@ -1,6 +1,6 @@
 -- The reduction of the lines of a start, as a recursion over a verdict on every text: a state is some of the
 -- lines, and a round is one list step over them. A relation says which candidates are admitted.
-use Rattle.std.specs.Prelude.{ℕ, Bool, true, List, length}
+use Rattle.std.specs.Prelude.{ℕ, Bool, true, List, None, length}
 use Rattle.list_ddmin.specs.ListStep.{Outcome, kept_of, list_step}
 use Rattle.reduce_rounds.specs.StateTexts.{StateTexts}
 use Rattle.reduce_rounds.specs.Reduction.{Recursion, RoundEnd, end_at}
@@ -38,4 +38,6 @@ line_recursion admits start =
       size = λ lines. length lines;
       opening = λ verdict. end_at (numbered_lines start);
       round = line_round admits;
+      measure = λ lines. length lines;
+      next_phase = λ lines. None;
     }

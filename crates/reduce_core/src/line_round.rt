@@ -126,6 +126,12 @@ impl<'a, F: Relation> Round for LineRound<'a, F> {
         Ok(())
     }
 
+    fn next_phase(&mut self) -> Result<bool, Memory> {
+        Ok(false)
+    }
+
+    fn phases_agree() {}
+
     fn copy(&self) -> Result<LineRound<'a, F>, Memory> {
         let lines = self.lines.copy(self.alloc)?;
         let step = self.step.copy()?;

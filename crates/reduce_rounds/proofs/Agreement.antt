@@ -5,7 +5,8 @@ use Rattle.script_gate_trait.specs.declared.gate.Verdict.{Verdict}
 use Rattle.script_gate_trait.specs.declared.gate.Verdict.TheVariants.{Yes, No}
 use Rattle.reduce_rounds.specs.Trials.{Trials, Done, Try}
 use Rattle.reduce_rounds.specs.Mode.{RoundMode}
-use Rattle.reduce_rounds.specs.Reduction.{Reduction, asks_first}
+use Rattle.std.specs.Option.{option_map_or}
+use Rattle.reduce_rounds.specs.Reduction.{Reduction, asks_first, ends_with}
 use Rattle.reduce_rounds.specs.ByTrials.{recursion_of, reduction_of}
 use Rattle.reduce_rounds.specs.Laws.{AgreeingMapsReduceAlike}
 use Rattle.reduce_rounds.specs.Verdicts.{Agree, HasVerdicts, says_yes}
@@ -47,26 +48,33 @@ module _ {T : Type 0} (mode : RoundMode T) (V W : List ℕ → Option Verdict) (
   alike-in go go' each state (Try other at_yes at_no) changed =
       alike-test (mode.is_listed other) (mode.text other) _ _ _ _ (alike-in go go' each other at_yes true) (alike-in go go' each state at_no changed)
 
-  alike-next : (go go' : T → Reduction T) (state : T) (changed : Bool) → Alike (go state) (go' state)
-      → Alike (next_round go state changed) (next_round go' state changed)
+  alike-phase : (go go' : T → Reduction T) (state : T) (o : Option T) → ((next : T) → Alike (go next) (go' next))
+      → Alike (one_round_more (option_map_or go o (ends_with state false))) (one_round_more (option_map_or go' o (ends_with state false)))
   unfolding Alike
-  alike-next go go' state true each = λ has has'. ap one_round_more (each has has')
-  alike-next go go' state false each = λ has has'. refl
+  alike-phase go go' state None each = λ has has'. refl
+  alike-phase go go' state (Some next) each = λ has has'. ap one_round_more (each next has has')
+
+  alike-next : (go go' : T → Reduction T) (state : T) (changed : Bool) → ((remaining : T) → Alike (go remaining) (go' remaining))
+      → Alike (next_round mode.next_phase go state changed) (next_round mode.next_phase go' state changed)
+  unfolding Alike
+  alike-next go go' state true each = λ has has'. ap one_round_more (each state has has')
+  alike-next go go' state false each = alike-phase go go' state (mode.next_phase state) each
 
   alike-rounds : (n : ℕ) (state : T) → Alike (rounds_in mode (says_yes V) n state) (rounds_in mode (says_yes W) n state)
   unfolding Alike
   alike-rounds zero state = λ has has'. refl
   alike-rounds (suc n) state =
-      alike-in (next_round (λ remaining. rounds_in mode (says_yes V) n remaining)) (next_round (λ remaining. rounds_in mode (says_yes W) n remaining))
+      alike-in (next_round mode.next_phase (λ remaining. rounds_in mode (says_yes V) n remaining))
+      (next_round mode.next_phase (λ remaining. rounds_in mode (says_yes W) n remaining))
       (λ remaining changed. alike-next (λ r. rounds_in mode (says_yes V) n r) (λ r. rounds_in mode (says_yes W) n r) remaining changed
-      (alike-rounds n remaining)) state (mode.round state) false
+      (λ r. alike-rounds n r)) state (mode.round state) false
 
   whole : Alike (reduction_in mode (says_yes V)) (reduction_in mode (says_yes W))
   unfolding Alike
   whole =
       alike-test true (mode.text mode.start) _ _ _ _
       (alike-in (λ state changed. all_rounds mode (says_yes V) state) (λ state changed. all_rounds mode (says_yes W) state)
-      (λ state changed. alike-rounds (suc (mode.size state)) state) mode.start mode.opening false)
+      (λ state changed. alike-rounds (suc (mode.measure state)) state) mode.start mode.opening false)
       (λ has has'. refl)
 
   alike : HasVerdicts V (reduction_of mode (says_yes V)).questions → HasVerdicts W (reduction_of mode (says_yes W)).questions

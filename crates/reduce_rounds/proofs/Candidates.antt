@@ -1,6 +1,8 @@
 -- All that may be asked is the text of a listed state that is kept.
-use Rattle.std.proofs.Common.{◌≡◌, ⊎_elim, ℕ, suc, zero, ◌+◌, Bool, true, false, List, refl}
-use Rattle.reduce_step.specs.Plan.{Plan, End, MayAsk}
+use Rattle.std.proofs.Common.{◌≡◌, ⊎_elim, ℕ, suc, zero, ◌+◌, Bool, true, false, List, Option, Some, None, refl}
+use Rattle.std.specs.Prelude.{IfSome}
+use Rattle.std.specs.Option.{option_map_or}
+use Rattle.reduce_step.specs.Plan.{Plan, StepResult, End, MayAsk}
 use Rattle.reduce_rounds.specs.Trials.{Trials, Done, Try, AllTried}
 use Rattle.reduce_rounds.specs.Mode.{RoundMode, Keeps}
 use Rattle.reduce_rounds.specs.RoundsPlan.{ask_if, plan_first, plan_in, plan_next, plan_opening, plan_rounds, plan_within, step_result}
@@ -27,23 +29,31 @@ module _ {T : Type 0} (mode : RoundMode T) (Kept : T → Type 0) (keeps : Keeps 
       (in_trials go each state at_no changed (capped_count (used + 1)) has all.1.1)
       (in_trials go each state at_no changed used has all.1.1)
 
-  next : (go : ℕ → ℕ → T → Plan) (rounds : ℕ) (state : T) (changed : Bool) (used : ℕ) → ((r u : ℕ) → OnlyTexts (go r u state))
-      → OnlyTexts (plan_next mode go rounds state changed used)
+  in_phase : (go : T → Plan) (result : StepResult) (o : Option T) → IfSome o Kept → ((state : T) → Kept state → OnlyTexts (go state))
+      → OnlyTexts (option_map_or go o (End result))
   unfolding OnlyTexts
-  next go rounds state true used each = each (capped_count (rounds + 1)) used
-  next go rounds state false used each = λ text may. absurd may
+  in_phase go result None has each = λ text may. absurd may
+  in_phase go result (Some state) has each = each state has
+
+  next : (go : ℕ → ℕ → T → Plan) (rounds : ℕ) (state : T) (changed : Bool) (used : ℕ) → Kept state
+      → ((r u : ℕ) (remaining : T) → Kept remaining → OnlyTexts (go r u remaining)) → OnlyTexts (plan_next mode go rounds state changed used)
+  unfolding OnlyTexts
+  next go rounds state true used has each = each (capped_count (rounds + 1)) used state has
+  next go rounds state false used has each =
+      in_phase (go (capped_count (rounds + 1)) used) (step_result mode state used (capped_count (rounds + 1)) false) (mode.next_phase state)
+      (keeps.phase state has) (each (capped_count (rounds + 1)) used)
 
   in_rounds : (n rounds used : ℕ) (state : T) → Kept state → OnlyTexts (plan_within n mode rounds used state)
   unfolding plan_within OnlyTexts
   in_rounds zero rounds used state has = λ text may. absurd may
   in_rounds (suc n) rounds used state has =
       in_trials (plan_next mode (λ r u l. plan_within n mode r u l) rounds)
-      (λ remaining changed used' has'. next (λ r u l. plan_within n mode r u l) rounds remaining changed used' (λ r u. in_rounds n r u remaining has'))
+      (λ remaining changed used' has'. next (λ r u l. plan_within n mode r u l) rounds remaining changed used' has' (λ r u l has''. in_rounds n r u l has''))
       state (mode.round state) false used has (keeps.round state has)
 
   in_all_rounds : (rounds used : ℕ) (state : T) → Kept state → OnlyTexts (plan_rounds mode rounds used state)
   unfolding plan_rounds
-  in_all_rounds rounds used state has = in_rounds (suc (mode.size state)) rounds used state has
+  in_all_rounds rounds used state has = in_rounds (suc (mode.measure state)) rounds used state has
 
   whole : mode.is_listed mode.start ≡ true → OnlyTexts (plan_first mode)
   unfolding OnlyTexts

@@ -1,6 +1,7 @@
 -- The reduction as one recursion over trials, in which what follows is a parameter.
-use Rattle.std.proofs.Common.{◌≡◌, ℕ, suc, zero, ◌+◌, Bool, true, false, cond, List, ◌++◌, refl, sym, ap, ◌∙◌}
+use Rattle.std.proofs.Common.{◌≡◌, ℕ, suc, zero, ◌+◌, Bool, true, false, cond, List, ◌++◌, Option, refl, sym, ap, ◌∙◌}
 use Rattle.std.specs.Prelude.{◌||◌}
+use Rattle.std.specs.Option.{option_map_or}
 use Rattle.reduce_rounds.specs.Trials.{Trials, Done, Try}
 use Rattle.reduce_rounds.specs.Mode.{RoundMode}
 use Rattle.reduce_rounds.specs.Reduction.{Reduction, RoundEnd, after_opening, after_question, after_round, after_yes, asks_first}
@@ -24,9 +25,9 @@ module _ {T : Type 0} where
   abbrev pub one_round_more : Reduction T → Reduction T
   one_round_more r = record r { rounds = r.rounds + 1 }
 
-  -- what follows a round
-  abbrev pub next_round : (T → Reduction T) → T → Bool → Reduction T
-  next_round go state changed = one_round_more (cond changed (go state) (ends_with state false))
+  -- what follows a round, where this is the next phase of a state
+  abbrev pub next_round : (T → Option T) → (T → Reduction T) → T → Bool → Reduction T
+  next_round phase go state changed = one_round_more (cond changed (go state) (option_map_or go (phase state) (ends_with state false)))
 
   -- these texts are asked first
   abbrev pub after_texts : List (List ℕ) → Reduction T → Reduction T
@@ -63,10 +64,10 @@ module _ {T : Type 0} (mode : RoundMode T) (verdict : List ℕ → Bool) where
 
   abbrev pub rounds_in : ℕ → T → Reduction T
   rounds_in zero state = ends_with state false
-  rounds_in (suc n) state = tried_in (next_round (λ remaining. rounds_in n remaining)) state (mode.round state) false
+  rounds_in (suc n) state = tried_in (next_round mode.next_phase (λ remaining. rounds_in n remaining)) state (mode.round state) false
 
   abbrev pub all_rounds : T → Reduction T
-  all_rounds state = rounds_in (suc (mode.size state)) state
+  all_rounds state = rounds_in (suc (mode.measure state)) state
 
   abbrev pub reduction_in : Reduction T
   reduction_in =
@@ -78,13 +79,13 @@ module _ {T : Type 0} (mode : RoundMode T) (verdict : List ℕ → Bool) where
   rounds_in-within zero state = refl
   rounds_in-within (suc n) state =
       let last : RoundEnd T = round_of mode verdict state in
-      (λ i. after_round last (next_rounds (λ remaining. rounds_in-within n remaining i) last))
-      ∙ sym (tried_in-end (next_round (λ remaining. rounds_in n remaining)) state (mode.round state) false)
+      (λ i. after_round last (next_rounds mode.next_phase (λ remaining. rounds_in-within n remaining i) last))
+      ∙ sym (tried_in-end (next_round mode.next_phase (λ remaining. rounds_in n remaining)) state (mode.round state) false)
 
   pub reduction-in : reduction_of mode verdict ≡ reduction_in
   unfolding reduction rounds_of
   reduction-in =
       let last : RoundEnd T = opening_of mode verdict in
       ap (λ r. asks_first (mode.text mode.start) (cond (verdict (mode.text mode.start)) r (ends_with mode.start true)))
-      (ap (after_opening last) (rounds_in-within (suc (mode.size last.state)) last.state)
+      (ap (after_opening last) (rounds_in-within (suc (mode.measure last.state)) last.state)
       ∙ sym (tried_in-end (λ state changed. all_rounds state) mode.start mode.opening false))

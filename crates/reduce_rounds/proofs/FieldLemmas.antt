@@ -1,9 +1,10 @@
 -- What the fields of a machine mean.
-use Rattle.std.proofs.Common.{◌≡◌, ◌+◌, ℕ, Bool, true, false, cond, List, Some, None, IsSome, refl, sym, ap, ◌∙◌, subst}
+use Rattle.std.proofs.Common.{◌≡◌, ◌+◌, ◌<◌, ℕ, Bool, true, false, cond, List, Option, Some, None, IsSome, refl, sym, ap, ◌∙◌, subst}
 use Rattle.std.proofs.Math.Logic.{∥∥₁_elim}
 use Rattle.std.proofs.Props.{props}
 use Rattle.std.proofs.lemmas.Bool.{false≢true}
-use Rattle.std.specs.Prelude.{◌||◌}
+use Rattle.std.specs.Prelude.{◌||◌, IfSome}
+use Rattle.std.specs.Option.{option_map_or}
 use Rattle.script_gate_trait.specs.declared.gate.Verdict.{Verdict}
 use Rattle.script_gate_trait.specs.declared.gate.Verdict.TheVariants.{Yes, No}
 use Rattle.reduce_step.specs.Plan.{Plan, End, asked, after as plan_after}
@@ -11,12 +12,12 @@ use Rattle.reduce_rounds.specs.declared.stage.Stage.{Stage}
 use Rattle.reduce_rounds.specs.declared.stage.Stage.TheVariants.{Start, Opening, Within, Ended}
 use Rattle.reduce_rounds.specs.declared.stage.Progress.{Progress}
 use Rattle.reduce_rounds.specs.Trials.{Trials, Done, Try, AllTried, EachIsSmaller, is_done, state_after, trials_after}
-use Rattle.reduce_rounds.specs.Mode.{RoundMode, IsLawful}
+use Rattle.reduce_rounds.specs.Mode.{BeginsPhase, IsLawful, PhasesAgree, RoundMode}
 use Rattle.reduce_rounds.specs.Verdicts.{is_yes}
 use Rattle.reduce_rounds.specs.RoundsPlan.{ask_if, plan_in, plan_next, plan_opening, plan_rounds, step_result}
 use Rattle.reduce_rounds.specs.inner.RoundsPlan.{plan_round}
 use Rattle.reduce_rounds.specs.Reduction.{capped_count}
-use Rattle.reduce_rounds.specs.Fields.{listed_text, text_if}
+use Rattle.reduce_rounds.specs.Fields.{WentOn, listed_text, text_if}
 use Rattle.reduce_rounds.specs.inner.Fields.{Becomes, HasState, IsReady, IsTrying, StaysKept, listed_trials, plan_of, result_so_far, stage_after}
 use Rattle.reduce_rounds.specs.inner.FieldProps.{are_kept_prop}
 use Rattle.reduce_rounds.proofs.Continued.{or-false, or-true}
@@ -89,9 +90,21 @@ module _ {T : Type 0} (mode : RoundMode T) where
   kept-round Kept state rest stays keeps =
       ∥∥₁_elim (stays keeps).0 (are_kept_prop Kept state (mode.round state)) (λ kept. (∣ kept ∣₁, merely_all Kept (mode.round state) (keeps.round state kept)))
 
-  smaller_prop : (n : ℕ) (rest : Trials T) → IsProp (EachIsSmaller mode.size n rest)
+  smaller_prop : (n : ℕ) (rest : Trials T) → IsProp (EachIsSmaller mode.measure n rest)
   smaller_prop n Done = hlevel props
-  smaller_prop n (Try other at_yes at_no) = hlevel (props, smaller_prop (mode.size other) at_yes, smaller_prop n at_no)
+  smaller_prop n (Try other at_yes at_no) = hlevel (props, smaller_prop (mode.measure other) at_yes, smaller_prop n at_no)
+
+  begins_prop : (state : T) (o : Option T) → IsProp (IfSome o (BeginsPhase mode state))
+  begins_prop state None = hlevel props
+  begins_prop state (Some next) = hlevel props
+
+  kept_phase_prop : (Kept : T → Type 0) (o : Option T) → IsProp (IfSome o (λ next. ∥ Kept next ∥₁))
+  kept_phase_prop Kept None = hlevel props
+  kept_phase_prop Kept (Some next) = hlevel props
+
+  merely_phase : (Kept : T → Type 0) (o : Option T) → IfSome o Kept → IfSome o (λ next. ∥ Kept next ∥₁)
+  merely_phase Kept None kept = tt
+  merely_phase Kept (Some next) kept = ∣ kept ∣₁
 
   -- a lawful mode is lawful for the states of which at least one proof says that they are kept
   merely_lawful : (Kept : T → Type 0) → IsLawful mode Kept → IsLawful mode (λ state. ∥ Kept state ∥₁)
@@ -100,15 +113,107 @@ module _ {T : Type 0} (mode : RoundMode T) where
       start = ∣ law.keeps.start ∣₁;
       opening = merely_all Kept mode.opening law.keeps.opening;
       round = λ state kept. (kept-round Kept state Done (λ keeps. (kept, tt)) law.keeps).1;
+      phase = λ state kept. ∥∥₁_elim kept (kept_phase_prop Kept (mode.next_phase state))
+          (λ one. merely_phase Kept (mode.next_phase state) (law.keeps.phase state one));
     };
-    smaller = λ state kept. ∥∥₁_elim kept (smaller_prop (mode.size state) (mode.round state)) (law.smaller state);
+    smaller = λ state kept. ∥∥₁_elim kept (smaller_prop (mode.measure state) (mode.round state)) (law.smaller state);
+    phases = λ state kept. ∥∥₁_elim kept (begins_prop state (mode.next_phase state)) (law.phases state);
   }
+
+  -- a phase begins with a kept state
+  kept-next : (Kept : T → Type 0) (state next : T) (rest : Trials T) → StaysKept mode Kept state rest → mode.next_phase state ≡ Some next
+      → StaysKept mode Kept next Done
+  kept-next Kept state next rest stays is keeps = (
+    ∥∥₁_elim (stays keeps).0 (hlevel props) (λ kept. ∣ subst (λ o. IfSome o Kept) is (keeps.phase state kept) ∣₁),
+    tt,
+  )
+
+  -- and reads as the state before
+  state-next : (state next : T) (progress : Progress) → PhasesAgree mode → mode.next_phase state ≡ Some next → HasState mode state progress
+      → HasState mode next progress
+  state-next state next progress agree is has =
+      let same = subst (λ o. IfSome o (λ s. (mode.text s ≡ mode.text state) × (mode.size s ≡ mode.size state))) is (agree state) in
+      record { text = has.text ∙ sym same.0; units = has.units ∙ sym same.1; refused = has.refused }
 
   -- the rounds from the state that remains are one round and what follows it
   first-round : (Kept : T → Type 0) → IsLawful mode Kept → (rounds used : ℕ) (state : T) (rest : Trials T) → StaysKept mode Kept state rest
       → plan_rounds mode rounds used state ≡ plan_round mode rounds state (mode.round state) false used
   first-round Kept law rounds used state rest stays =
       plan_rounds-step mode (λ one. ∥ Kept one ∥₁) (merely_lawful Kept law) rounds used state (stays law.keeps).0
+
+  -- a round without a yes is the last in the last phase
+  last-next : (rounds : ℕ) (state : T) (used : ℕ) → mode.next_phase state ≡ None
+      → End (step_result mode state used (capped_count (rounds + 1)) false) ≡ plan_next mode (plan_rounds mode) rounds state false used
+  last-next rounds state used last =
+      ap (λ o. option_map_or (plan_rounds mode (capped_count (rounds + 1)) used) o (End (step_result mode state used (capped_count (rounds + 1)) false)))
+      (sym last)
+
+  -- and else the next phase follows
+  phase-next : (rounds : ℕ) (state next : T) (used : ℕ) → mode.next_phase state ≡ Some next
+      → plan_rounds mode (capped_count (rounds + 1)) used next ≡ plan_next mode (plan_rounds mode) rounds state false used
+  phase-next rounds state next used is =
+      ap (λ o. option_map_or (plan_rounds mode (capped_count (rounds + 1)) used) o (End (step_result mode state used (capped_count (rounds + 1)) false)))
+      (sym is)
+
+  -- another round begins with this state: it has the last yes's text and units, it is kept, and the plan goes on with it
+  abbrev pub GoesOn : (T → Type 0) → Progress → ℕ → ℕ → Plan → T → Type 0
+  GoesOn Kept progress rounds used plan new =
+      HasState mode new progress × StaysKept mode Kept new Done × (plan_rounds mode (capped_count (rounds + 1)) used new ≡ plan)
+
+  in-next : (Kept : T → Type 0) (state new : T) (rest : Trials T) (progress : Progress) (rounds used : ℕ) (o : Option T) → PhasesAgree mode
+      → StaysKept mode Kept state rest → HasState mode state progress → mode.next_phase state ≡ o → WentOn o state new true
+      → GoesOn Kept progress rounds used (plan_next mode (plan_rounds mode) rounds state false used) new
+  in-next Kept state new rest progress rounds used None agree stays has is went = absurd (false≢true (sym went.0))
+  in-next Kept state new rest progress rounds used (Some next) agree stays has is went =
+      subst (GoesOn Kept progress rounds used (plan_next mode (plan_rounds mode) rounds state false used)) (sym went.1)
+      (state-next state next progress agree is has, kept-next Kept state next rest stays is, phase-next rounds state next used is)
+
+  -- after a round comes one from the state that remains, or in the next phase
+  pub went-on : (Kept : T → Type 0) (state new : T) (rest : Trials T) (changed : Bool) (progress : Progress) (rounds used : ℕ) → PhasesAgree mode
+      → StaysKept mode Kept state rest → HasState mode state progress → WentOn (cond changed (Some state) (mode.next_phase state)) state new true
+      → GoesOn Kept progress rounds used (plan_next mode (plan_rounds mode) rounds state changed used) new
+  went-on Kept state new rest true progress rounds used agree stays has went =
+      subst (GoesOn Kept progress rounds used (plan_rounds mode (capped_count (rounds + 1)) used state)) (sym went.1)
+      (has, λ keeps. ((stays keeps).0, tt), refl)
+  went-on Kept state new rest false progress rounds used agree stays has went =
+      in-next Kept state new rest progress rounds used (mode.next_phase state) agree stays has refl went
+
+  in-last : (state new : T) (o : Option T) → mode.next_phase state ≡ o → WentOn o state new false → (mode.next_phase state ≡ None) × (new ≡ state)
+  in-last state new None is went = (is, went.1)
+  in-last state new (Some next) is went = absurd (false≢true went.0)
+
+  -- or the round was the last one of the last phase, and had no yes
+  pub went-nowhere : (state new : T) (changed : Bool) → WentOn (cond changed (Some state) (mode.next_phase state)) state new false
+      → (changed ≡ false) × ((mode.next_phase state ≡ None) × (new ≡ state))
+  went-nowhere state new true went = absurd (false≢true went.0)
+  went-nowhere state new false went = (refl, in-last state new (mode.next_phase state) refl went)
+
+  in-smaller : (state new : T) (o : Option T) → IfSome o (BeginsPhase mode state) → WentOn o state new true → mode.measure new < mode.measure state
+  in-smaller state new None begins went = absurd (false≢true (sym went.0))
+  in-smaller state new (Some next) begins went = subst (λ s. mode.measure s < mode.measure state) (sym went.1) begins.smaller
+
+  -- the next phase has a smaller measure
+  pub phase-smaller : (Kept : T → Type 0) → IsLawful mode Kept → (state new : T) (rest : Trials T) → StaysKept mode Kept state rest
+      → WentOn (mode.next_phase state) state new true → mode.measure new < mode.measure state
+  phase-smaller Kept law state new rest stays went =
+      in-smaller state new (mode.next_phase state) ((merely_lawful Kept law).phases state (stays law.keeps).0) went
+
+  -- a round that asks nothing comes to what follows it
+  passed-over : (Kept : T → Type 0) → IsLawful mode Kept → (rounds used : ℕ) (state : T) (before rest : Trials T) → StaysKept mode Kept state before
+      → rest ≡ listed_trials mode (mode.round state) → is_done rest ≡ true
+      → plan_next mode (plan_rounds mode) rounds state false used ≡ plan_rounds mode rounds used state
+  passed-over Kept law rounds used state before rest stays is over =
+      ap (λ r. plan_round mode rounds state r false used) (sym (sym is ∙ done-is rest over))
+      ∙ plan_in-listed_trials (plan_next mode (plan_rounds mode) rounds) state (mode.round state) false used
+      ∙ sym (first-round Kept law rounds used state before stays)
+
+  -- and so to the rounds of the next phase
+  pub begun-next : (Kept : T → Type 0) → IsLawful mode Kept → (rounds used : ℕ) (state new : T) (before rest : Trials T) (progress : Progress)
+      → PhasesAgree mode → StaysKept mode Kept state before → HasState mode state progress → rest ≡ listed_trials mode (mode.round state)
+      → is_done rest ≡ true → WentOn (mode.next_phase state) state new true → GoesOn Kept progress rounds used (plan_rounds mode rounds used state) new
+  begun-next Kept law rounds used state new before rest progress agree stays has is over went =
+      let on = went-on Kept state new before false progress rounds used agree stays has went in
+      (on.0, on.1, on.2 ∙ passed-over Kept law rounds used state before rest stays is over)
 
   -- a round that was begun: the fields after passing
   pub begun-asking : (Kept : T → Type 0) → IsLawful mode Kept → (state : T) (before rest : Trials T) (progress : Progress) → StaysKept mode Kept state before
@@ -127,13 +232,13 @@ module _ {T : Type 0} (mode : RoundMode T) where
 
   pub begun-over : (Kept : T → Type 0) → IsLawful mode Kept → (state : T) (before rest : Trials T) (progress progress' : Progress)
       → StaysKept mode Kept state before → rest ≡ listed_trials mode (mode.round state) → is_done rest ≡ true
+      → mode.next_phase state ≡ None
       → HasState mode state progress' → progress'.used ≡ progress.used → progress'.rounds ≡ capped_count (progress.rounds + 1)
       → Becomes (plan_rounds mode progress.rounds progress.used state) mode Kept state rest Ended progress'
-  begun-over Kept law state before rest progress progress' stays is over has p q = record {
+  begun-over Kept law state before rest progress progress' stays is over last has p q = record {
     same = end-is state progress' progress.used (capped_count (progress.rounds + 1)) has p q
-        ∙ ap (λ r. plan_round mode progress.rounds state r false progress.used) (sym (sym is ∙ done-is rest over))
-        ∙ plan_in-listed_trials (plan_next mode (plan_rounds mode) progress.rounds) state (mode.round state) false progress.used
-        ∙ sym (first-round Kept law progress.rounds progress.used state before stays);
+        ∙ last-next progress.rounds state progress.used last
+        ∙ passed-over Kept law progress.rounds progress.used state before rest stays is over;
     asking = tt;
   }
 
@@ -248,14 +353,37 @@ moved mode_of Kept_of plan plan' input input' state state' rest stage progress p
     (subst (λ m. Becomes plan (mode_of m) (Kept_of m) state rest stage progress) (sym q)
     (subst (λ p. Becomes p (mode_of input) (Kept_of input) state rest stage progress) p becomes))
 
--- a round without a yes was the last
+-- the same of what is kept and what was shown, and of where it went on to
+pub moved-state : {I T : Type 0} (mode_of : I → RoundMode T) (input input' : I) (state state' : T) (progress : Progress) → input' ≡ input → state' ≡ state
+    → HasState (mode_of input) state progress → HasState (mode_of input') state' progress
+moved-state mode_of input input' state state' progress q r has =
+    subst (λ s. HasState (mode_of input') s progress) (sym r) (subst (λ m. HasState (mode_of m) state progress) (sym q) has)
+
+pub moved-kept : {I T : Type 0} (mode_of : I → RoundMode T) (Kept_of : I → T → Type 0) (input input' : I) (state state' : T) (rest rest' : Trials T)
+    → input' ≡ input → state' ≡ state → rest' ≡ rest → StaysKept (mode_of input) (Kept_of input) state rest
+    → StaysKept (mode_of input') (Kept_of input') state' rest'
+moved-kept mode_of Kept_of input input' state state' rest rest' q r p stays =
+    subst (StaysKept (mode_of input') (Kept_of input') state') (sym p)
+    (subst (λ s. StaysKept (mode_of input') (Kept_of input') s rest) (sym r)
+    (subst (λ m. StaysKept (mode_of m) (Kept_of m) state rest) (sym q) stays))
+
+pub moved-went : {I T : Type 0} (mode_of : I → RoundMode T) (input input' : I) (state state' new : T) (changed more more' : Bool) → input' ≡ input
+    → state' ≡ state → more ≡ more' → WentOn (cond changed (Some state') ((mode_of input').next_phase state')) state' new more
+    → WentOn (cond changed (Some state) ((mode_of input).next_phase state)) state new more'
+moved-went mode_of input input' state state' new changed more more' q r p went =
+    subst (WentOn (cond changed (Some state) ((mode_of input).next_phase state)) state new) p
+    (subst (λ s. WentOn (cond changed (Some s) ((mode_of input).next_phase s)) s new more) r
+    (subst (λ m. WentOn (cond changed (Some state') ((mode_of m).next_phase state')) state' new more) q went))
+
+-- a round without a yes was the last, in the last phase
 pub round-ends : {T : Type 0} (mode : RoundMode T) (Kept : T → Type 0) (state : T) (rest rest' : Trials T) (changed : Bool) (progress : Progress) (rounds : ℕ)
-    → rest' ≡ listed_trials mode rest → rest' ≡ Done → changed ≡ false
+    → rest' ≡ listed_trials mode rest → rest' ≡ Done → changed ≡ false → mode.next_phase state ≡ None
     → rounds ≡ capped_count (progress.rounds + 1) → HasState mode state progress
     → Becomes (plan_of mode state rest (Within changed) progress) mode Kept state rest' Ended (record progress { rounds = rounds })
-round-ends mode Kept state rest rest' changed progress rounds is over no_yes more has = record {
+round-ends mode Kept state rest rest' changed progress rounds is over no_yes last more has = record {
   same = end-is mode state (record progress { rounds = rounds }) progress.used (capped_count (progress.rounds + 1))
       (record { text = has.text; units = has.units; refused = has.refused }) refl more
+      ∙ last-next mode progress.rounds state progress.used last
       ∙ ap (λ b. plan_next mode (plan_rounds mode) progress.rounds state b progress.used) (sym no_yes)
       ∙ round-over mode state rest rest' changed progress.rounds progress.used is over;
   asking = tt;

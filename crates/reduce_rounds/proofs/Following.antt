@@ -6,6 +6,7 @@ use Rattle.script_gate_trait.specs.declared.gate.Verdict.TheVariants.{Yes, No}
 use Rattle.reduce_step.specs.Plan.{Plan, End, Ask, StepResult, HasEnded, follow}
 use Rattle.reduce_rounds.specs.Trials.{Trials, Done, Try}
 use Rattle.reduce_rounds.specs.Mode.{RoundMode}
+use Rattle.std.specs.Option.{option_map_or}
 use Rattle.reduce_rounds.specs.Reduction.{Reduction, asks_first, capped_count, ends_with, reduction}
 use Rattle.reduce_rounds.specs.ByTrials.{recursion_of, reduction_of}
 use Rattle.reduce_rounds.specs.RoundsPlan.{ask_if, plan_first, plan_in, plan_next, plan_opening, plan_rounds, plan_within, step_result}
@@ -79,11 +80,19 @@ module _ {T : Type 0} (mode : RoundMode T) (V : List ℕ → Option Verdict) whe
     defined = later.defined;
   }
 
+  in_phase : (used rounds : ℕ) (state : T) (go : T → Plan) (go' : T → Reduction T) (o : Option T) → used < 2 ^ 64 → rounds < 2 ^ 64
+      → ((next : T) → Follows used rounds (go next) (go' next))
+      → Follows used rounds (option_map_or go o (End (step_result mode state used rounds false))) (option_map_or go' o (ends_with state false))
+  in_phase used rounds state go go' None fits fits' later = at_end used rounds state false fits fits'
+  in_phase used rounds state go go' (Some next) fits fits' later = later next
+
   next : (used rounds : ℕ) (state : T) (changed : Bool) (go : ℕ → ℕ → T → Plan) (go' : T → Reduction T) → used < 2 ^ 64
-      → Follows used (capped_count (rounds + 1)) (go (capped_count (rounds + 1)) used state) (go' state)
-      → Follows used rounds (plan_next mode go rounds state changed used) (next_round go' state changed)
-  next used rounds state true go go' fits later = one_more used rounds _ _ later
-  next used rounds state false go go' fits later = one_more used rounds _ _ (at_end used (capped_count (rounds + 1)) state false fits (omega arith))
+      → ((remaining : T) → Follows used (capped_count (rounds + 1)) (go (capped_count (rounds + 1)) used remaining) (go' remaining))
+      → Follows used rounds (plan_next mode go rounds state changed used) (next_round mode.next_phase go' state changed)
+  next used rounds state true go go' fits later = one_more used rounds _ _ (later state)
+  next used rounds state false go go' fits later =
+      one_more used rounds _ _
+      (in_phase used (capped_count (rounds + 1)) state (go (capped_count (rounds + 1)) used) go' (mode.next_phase state) fits (omega arith) later)
 
   in_rounds : (n rounds used : ℕ) (state : T) → used < 2 ^ 64 → rounds < 2 ^ 64
       → Follows used rounds (plan_within n mode rounds used state) (rounds_in mode (says_yes V) n state)
@@ -92,12 +101,12 @@ module _ {T : Type 0} (mode : RoundMode T) (V : List ℕ → Option Verdict) whe
   in_rounds (suc n) rounds used state fits fits' =
       in_trials rounds _ _
       (λ remaining changed used' low. next used' rounds remaining changed (λ r u l. plan_within n mode r u l) (λ l. rounds_in mode (says_yes V) n l) low
-      (in_rounds n (capped_count (rounds + 1)) used' remaining low (omega arith)))
+      (λ l. in_rounds n (capped_count (rounds + 1)) used' l low (omega arith)))
       state (mode.round state) false used fits
 
   in_all_rounds : (used : ℕ) (state : T) → used < 2 ^ 64 → Follows used 0 (plan_rounds mode 0 used state) (all_rounds mode (says_yes V) state)
   unfolding plan_rounds
-  in_all_rounds used state fits = in_rounds (suc (mode.size state)) 0 used state fits (omega arith)
+  in_all_rounds used state fits = in_rounds (suc (mode.measure state)) 0 used state fits (omega arith)
 
   one_test : 1 ≡ capped_count (0 + 1)
   one_test = omega arith
@@ -140,19 +149,24 @@ module _ {T : Type 0} (mode : RoundMode T) (verdict : List ℕ → Bool) where
       kept-test (mode.is_listed other) (verdict (mode.text other)) (mode.text other) _ _ (kept-in go each other at_yes true)
       (kept-in go each state at_no changed)
 
-  kept-next : (go : T → Reduction T) (state : T) (changed : Bool) → IsKept (go state) → IsKept (next_round go state changed)
-  kept-next go state true each = each
-  kept-next go state false each = refl
+  kept-phase : (go : T → Reduction T) (state : T) (o : Option T) → ((next : T) → IsKept (go next)) → IsKept (option_map_or go o (ends_with state false))
+  kept-phase go state None each = refl
+  kept-phase go state (Some next) each = each next
+
+  kept-next : (go : T → Reduction T) (state : T) (changed : Bool) → ((remaining : T) → IsKept (go remaining))
+      → IsKept (next_round mode.next_phase go state changed)
+  kept-next go state true each = each state
+  kept-next go state false each = kept-phase go state (mode.next_phase state) each
 
   kept-rounds : (n : ℕ) (state : T) → IsKept (rounds_in mode verdict n state)
   kept-rounds zero state = refl
   kept-rounds (suc n) state =
-      kept-in (next_round (λ remaining. rounds_in mode verdict n remaining))
-      (λ remaining changed. kept-next (λ r. rounds_in mode verdict n r) remaining changed (kept-rounds n remaining)) state (mode.round state) false
+      kept-in (next_round mode.next_phase (λ remaining. rounds_in mode verdict n remaining))
+      (λ remaining changed. kept-next (λ r. rounds_in mode verdict n r) remaining changed (λ r. kept-rounds n r)) state (mode.round state) false
 
   pub kept-opening : IsKept (tried_in mode verdict (λ state changed. all_rounds mode verdict state) mode.start mode.opening false)
   kept-opening =
-      kept-in (λ state changed. all_rounds mode verdict state) (λ state changed. kept-rounds (suc (mode.size state)) state) mode.start mode.opening false
+      kept-in (λ state changed. all_rounds mode verdict state) (λ state changed. kept-rounds (suc (mode.measure state)) state) mode.start mode.opening false
 
 pub refuses_at_no : {T : Type 0} (mode : RoundMode T) → RefusesAtNo (plan_first mode) (recursion_of mode)
 unfolding reduction

@@ -1,6 +1,7 @@
 mod Continued
 mod Fuel
 mod Recursions
+mod Refusals
 mod Following
 mod Ends
 mod Candidates

@@ -1,5 +1,7 @@
 -- Recursions that come to the same in their openings and rounds give the same reductions.
-use Rattle.std.proofs.Common.{◌≡◌, ℕ, suc, zero, Bool, true, false, cond, List, refl, ap, ◌∙◌}
+use Rattle.std.proofs.Common.{◌≡◌, ℕ, suc, zero, Bool, true, false, cond, List, Option, Some, None, refl, ap, ◌∙◌}
+use Rattle.std.specs.Prelude.{IfSome}
+use Rattle.std.specs.Option.{option_map_or}
 use Rattle.reduce_rounds.specs.Mode.{RoundMode, Keeps}
 use Rattle.reduce_rounds.specs.Reduction.{Recursion, Reduction, RoundEnd, after_opening, after_round, asks_first}
 use Rattle.reduce_rounds.specs.Reduction.{ends_with, next_rounds, reduction, rounds_of, rounds_within}
@@ -13,28 +15,36 @@ module _ {T : Type 0} (mode : RoundMode T) (Kept : T → Type 0) (keeps : Keeps 
   abbrev other : Recursion T
   other = record (recursion_of mode) { opening = opening; round = round }
 
-  -- what follows a round is the same, where it is so from the state that remains
-  next_same : (go go' : T → Reduction T) (last : RoundEnd T) → go last.state ≡ go' last.state → next_rounds go last ≡ next_rounds go' last
-  next_same go go' last same_go = by_change last.changed
+  phase_same : (go go' : T → Reduction T) (end : Reduction T) (o : Option T) → IfSome o Kept → ((state : T) → Kept state → go state ≡ go' state)
+      → option_map_or go o end ≡ option_map_or go' o end
+  phase_same go go' end None kept each = refl
+  phase_same go go' end (Some next) kept each = each next kept
+
+  -- what follows a round is the same, where it is so from each kept state
+  next_same : (go go' : T → Reduction T) (last : RoundEnd T) → Kept last.state → ((state : T) → Kept state → go state ≡ go' state)
+      → next_rounds mode.next_phase go last ≡ next_rounds mode.next_phase go' last
+  next_same go go' last kept each = by_change last.changed
     where
-      by_change : (changed : Bool) → cond changed (go last.state) (ends_with last.state false) ≡ cond changed (go' last.state) (ends_with last.state false)
-      by_change true = same_go
-      by_change false = refl
+      by_change : (changed : Bool)
+          → cond changed (go last.state) (option_map_or go (mode.next_phase last.state) (ends_with last.state false))
+          ≡ cond changed (go' last.state) (option_map_or go' (mode.next_phase last.state) (ends_with last.state false))
+      by_change true = each last.state kept
+      by_change false = phase_same go go' (ends_with last.state false) (mode.next_phase last.state) (keeps.phase last.state kept) each
 
   pub rounds_same : (n : ℕ) (state : T) → Kept state → rounds_within n other verdict state ≡ rounds_within n (recursion_of mode) verdict state
   unfolding rounds_within
   rounds_same zero state kept = refl
   rounds_same (suc n) state kept =
       let last : RoundEnd T = round_of mode verdict state in
-      ap (λ (end : RoundEnd T). after_round end (next_rounds (λ remaining. rounds_within n other verdict remaining) end)) (same state kept)
+      ap (λ (end : RoundEnd T). after_round end (next_rounds mode.next_phase (λ remaining. rounds_within n other verdict remaining) end)) (same state kept)
       ∙ ap (after_round last)
       (next_same (λ remaining. rounds_within n other verdict remaining) (λ remaining. rounds_within n (recursion_of mode) verdict remaining) last
-      (rounds_same n last.state (remaining-kept mode verdict Kept state (mode.round state) kept (keeps.round state kept))))
+      (remaining-kept mode verdict Kept state (mode.round state) kept (keeps.round state kept)) (λ remaining kept'. rounds_same n remaining kept'))
 
   -- the same of all rounds from a state
   pub all_rounds_same : (state : T) → Kept state → rounds_of other verdict state ≡ rounds_of (recursion_of mode) verdict state
   unfolding rounds_of
-  all_rounds_same state kept = rounds_same (suc (mode.size state)) state kept
+  all_rounds_same state kept = rounds_same (suc (mode.measure state)) state kept
 
   reduction_same : reduction other verdict ≡ reduction (recursion_of mode) verdict
   unfolding reduction

@@ -25,7 +25,15 @@ opening_of mode verdict = trials_end (texts_of mode) verdict mode.start mode.ope
 
 -- the recursion whose opening and rounds are these trials
 abbrev pub recursion_of : {T : Type 0} → RoundMode T → Recursion T
-recursion_of mode = record { start = mode.start; text = mode.text; size = mode.size; opening = opening_of mode; round = round_of mode }
+recursion_of mode = record {
+  start = mode.start;
+  text = mode.text;
+  size = mode.size;
+  opening = opening_of mode;
+  round = round_of mode;
+  measure = mode.measure;
+  next_phase = mode.next_phase;
+}
 
 -- its reduction
 abbrev pub reduction_of : {T : Type 0} → RoundMode T → (List ℕ → Bool) → Reduction T

@@ -1,7 +1,12 @@
 -- The fields of a machine, and the plan that they mean.
-use Rattle.std.specs.Prelude.{ℕ, Bool, true, false, List, Option, Some, None}
+use Rattle.std.specs.Prelude.{◌≡◌, ℕ, Bool, true, false, List, Option, Some, None}
 use Rattle.reduce_rounds.specs.Trials.{Trials, Done, Try}
 use Rattle.reduce_rounds.specs.Mode.{RoundMode}
+
+-- It went on to the phase that begins with this state, if there is one; else the state is as before.
+abbrev pub WentOn : {T : Type 0} → Option T → T → T → Bool → Type 0
+WentOn None old new begun = (begun ≡ false) × (new ≡ old)
+WentOn (Some next) old new begun = (begun ≡ true) × (new ≡ next)
 
 -- a text, where its state is listed
 abbrev pub text_if : Bool → List ℕ → Option (List ℕ)

@@ -1,5 +1,5 @@
 -- What holds of each reduction, whatever its mode.
-use Rattle.std.specs.Prelude.{◌≡◌, ◌≤◌, ℕ, List, [], ◌∷◌, All, Bool, true, false, length, Option, Some}
+use Rattle.std.specs.Prelude.{◌≡◌, ◌≤◌, ℕ, List, [], ◌∷◌, All, Bool, true, false, length, Option, Some, None}
 use Rattle.script_gate_trait.specs.declared.gate.Verdict.{Verdict}
 use Rattle.script_gate_trait.specs.declared.gate.Verdict.TheVariants.{Yes, No}
 use Rattle.reduce_step.specs.Plan.{Plan, StepResult, End, HasEnded, MayAsk, follow}
@@ -34,11 +34,12 @@ RefusesAtNo plan recursion = (V : List ℕ → Option Verdict) →
     (V (recursion.text recursion.start) ≡ Some Yes → (reduction recursion (says_yes V)).refused ≡ false)
     × (V (recursion.text recursion.start) ≡ Some No → HasEnded (follow V plan) × ((reduction recursion (says_yes V)).refused ≡ true))
 
--- The end is kept and listed, it has a yes, and each of its edits that is listed has a no.
+-- The end is kept and listed, in the last phase, it has a yes, and each of its edits that is listed has a no.
 pub record EndsWell {T : Type 0} (mode : RoundMode T) (Kept : T → Type 0) (IsEdit : T → T → Type 0) (V : List ℕ → Option Verdict) (state : T) : Type 0 where
   pub yes_at_end : V (mode.text state) ≡ Some Yes
   pub listed : mode.is_listed state ≡ true
   pub kept : Kept state
+  pub last : mode.next_phase state ≡ None
   pub minimal : IsMinimal IsEdit (λ other. mode.is_listed other ≡ true) mode.text V state
 
 -- A reduction of a listed start that was not refused ends well, where a round tries each edit.
@@ -70,7 +71,8 @@ AheadIsStartAlone mode = (most : ℕ) → 1 ≤ most → ahead most (plan_first 
 -- The rounds from a kept state are one round and what follows: the bound in their definition is never met.
 abbrev pub GoesByItsRounds : {T : Type 0} → Recursion T → (T → Type 0) → Type 0
 GoesByItsRounds {T = T} recursion Kept = (verdict : List ℕ → Bool) (state : T) → Kept state → rounds_of recursion verdict state
-    ≡ after_round (recursion.round verdict state) (next_rounds (λ remaining. rounds_of recursion verdict remaining) (recursion.round verdict state))
+    ≡ after_round (recursion.round verdict state)
+    (next_rounds recursion.next_phase (λ remaining. rounds_of recursion verdict remaining) (recursion.round verdict state))
 
 -- Reductions over two maps that agree are equal, where each map has a verdict for each text that its own reduction asks.
 abbrev pub AgreeingMapsReduceAlike : {T : Type 0} → Recursion T → Type 0

@@ -1,6 +1,7 @@
 -- The reduction of a start, as a recursion over a verdict on every text: the start is asked,
--- then what comes before the rounds, and then rounds are made until one has no yes.
-use Rattle.std.specs.Prelude.{◌+◌, ◌-◌, ◌^◌, min, ℕ, zero, suc, Bool, true, false, List, [], ◌∷◌, ◌++◌, if◌then◌else◌}
+-- then what comes before the rounds, and then rounds are made until one has no yes, in one phase after another.
+use Rattle.std.specs.Prelude.{◌+◌, ◌-◌, ◌^◌, min, ℕ, zero, suc, Bool, true, false, List, [], ◌∷◌, ◌++◌, Option, if◌then◌else◌}
+use Rattle.std.specs.Option.{option_map_or}
 use Rattle.reduce_rounds.specs.StateTexts.{StateTexts}
 
 -- what a round comes to: the texts that are asked, in order and repeated texts each time, the state that remains, and whether there was a yes
@@ -38,6 +39,10 @@ pub record Recursion (T : Type 0) : Type 0 where
   pub opening : (List ℕ → Bool) → RoundEnd T
   -- one round from a state
   pub round : (List ℕ → Bool) → T → RoundEnd T
+  -- what bounds the rounds from a state
+  pub measure : T → ℕ
+  -- what the rounds of the next phase begin with, after a round without a yes; none in the last phase
+  pub next_phase : T → Option T
 
 -- what a reduction asks, in order and repeated texts each time, the state that it ends with, its rounds, and whether the start was refused
 pub record Reduction (T : Type 0) : Type 0 where
@@ -62,19 +67,20 @@ after_opening opening later = record later { questions = opening.questions ++ la
 abbrev pub after_round : {T : Type 0} → RoundEnd T → Reduction T → Reduction T
 after_round round later = record later { questions = round.questions ++ later.questions; rounds = later.rounds + 1 }
 
--- what follows a round: a round without a yes was the last one, and any other is followed by rounds from the state that remains
-abbrev pub next_rounds : {T : Type 0} → (T → Reduction T) → RoundEnd T → Reduction T
-next_rounds go round = if round.changed then go round.state else ends_with round.state false
+-- What follows a round: after a yes rounds from the state that remains; else the rounds of the next phase, and in the last phase nothing.
+abbrev pub next_rounds : {T : Type 0} → (T → Option T) → (T → Reduction T) → RoundEnd T → Reduction T
+next_rounds next_phase go round = if round.changed then go round.state else option_map_or go (next_phase round.state) (ends_with round.state false)
 
--- rounds until one has no yes, but at most so many
+-- rounds until one of the last phase has no yes, but at most so many
 unfoldable pub rounds_within : {T : Type 0} → ℕ → Recursion T → (List ℕ → Bool) → T → Reduction T
 rounds_within zero recursion verdict state = ends_with state false
 rounds_within (suc rounds) recursion verdict state =
-    after_round (recursion.round verdict state) (next_rounds (λ remaining. rounds_within rounds recursion verdict remaining) (recursion.round verdict state))
+    after_round (recursion.round verdict state)
+    (next_rounds recursion.next_phase (λ remaining. rounds_within rounds recursion verdict remaining) (recursion.round verdict state))
 
--- Each round but the last leaves a smaller state, so there is at most one round more than the state has units.
+-- Each round but the last is followed by one from a smaller measure, so there is at most one round more than the state's measure.
 unfoldable pub rounds_of : {T : Type 0} → Recursion T → (List ℕ → Bool) → T → Reduction T
-rounds_of recursion verdict state = rounds_within (suc (recursion.size state)) recursion verdict state
+rounds_of recursion verdict state = rounds_within (suc (recursion.measure state)) recursion verdict state
 
 -- the start is asked first; at no it is refused
 unfoldable pub reduction : {T : Type 0} → Recursion T → (List ℕ → Bool) → Reduction T

@@ -1,5 +1,6 @@
 -- The reduction as a plan: what a machine asks, and how it goes on at each answer. Counts of 64 bits stay at their greatest value.
 use Rattle.std.specs.Prelude.{◌≡◌, ◌+◌, ℕ, zero, suc, Bool, true, false, List, if◌then◌else◌}
+use Rattle.std.specs.Option.{option_map_or}
 use Rattle.reduce_step.specs.Plan.{Plan, StepResult, End, Ask}
 use Rattle.reduce_rounds.specs.Trials.{Trials, Done, Try}
 use Rattle.reduce_rounds.specs.Mode.{RoundMode}
@@ -28,19 +29,21 @@ plan_in mode go state (Try other at_yes at_no) changed used =
     (plan_in mode go state at_no changed (capped_count (used + 1)))
     (plan_in mode go state at_no changed used)
 
--- what follows a round that began after so many
+-- what follows a round that began after so many: another one after a yes, or in the next phase, and else the end
 abbrev pub plan_next : {T : Type 0} → RoundMode T → (ℕ → ℕ → T → Plan) → ℕ → T → Bool → ℕ → Plan
 plan_next mode go rounds state changed used =
-    if changed then go (capped_count (rounds + 1)) used state else End (step_result mode state used (capped_count (rounds + 1)) false)
+    if changed
+    then go (capped_count (rounds + 1)) used state
+    else option_map_or (go (capped_count (rounds + 1)) used) (mode.next_phase state) (End (step_result mode state used (capped_count (rounds + 1)) false))
 
--- rounds until one has no yes, but at most so many
+-- rounds until one of the last phase has no yes, but at most so many
 unfoldable pub plan_within : {T : Type 0} → ℕ → RoundMode T → ℕ → ℕ → T → Plan
 plan_within zero mode rounds used state = End (step_result mode state used rounds false)
 plan_within (suc n) mode rounds used state =
     plan_in mode (plan_next mode (λ rounds' used' remaining. plan_within n mode rounds' used' remaining) rounds) state (mode.round state) false used
 
 unfoldable pub plan_rounds : {T : Type 0} → RoundMode T → ℕ → ℕ → T → Plan
-plan_rounds mode rounds used state = plan_within (suc (mode.size state)) mode rounds used state
+plan_rounds mode rounds used state = plan_within (suc (mode.measure state)) mode rounds used state
 
 -- within the opening
 abbrev pub plan_opening : {T : Type 0} → RoundMode T → ℕ → T → Trials T → ℕ → Plan

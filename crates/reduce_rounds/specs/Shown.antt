@@ -1,6 +1,8 @@
 -- What a reducer shows at any time, by what it does from then on.
-use Rattle.std.specs.Prelude.{◌≡◌, ◌⊎◌, ◌+◌, ℕ, List, false, IsSome}
+use Rattle.std.specs.Prelude.{◌≡◌, ◌⊎◌, ◌+◌, ℕ, zero, suc, List, false, IsSome}
+use Rattle.std.specs.Option.{option_map_or}
 use Rattle.reduce_step.specs.Plan.{Plan, StepResult, End, Ask, asked}
+use Rattle.reduce_rounds.specs.Mode.{RoundMode}
 use Rattle.reduce_rounds.specs.Reduction.{capped_count}
 
 -- At each end that it may come to, the text is the last one that had a yes, or this text where no yes comes, and the tests are so many and one for each answer.
@@ -23,8 +25,18 @@ pub record Shows (plan : Plan) (shown : StepResult) : Type 0 where
   -- what was refused asks nothing
   pub refused : IsSome (asked plan) → shown.refused ≡ false
 
--- So many rounds were made. If a yes and then no's alone follow, two more end, the present one and another; before the rounds it is the first alone.
-abbrev pub CountsRounds : Plan → ℕ → Type 0
-CountsRounds (End result) rounds = rounds ≡ result.rounds
-CountsRounds (Ask text at_yes at_no) rounds =
-    ((end_at_no at_yes).rounds ≡ capped_count (rounds + 2)) ⊎ (((end_at_no at_yes).rounds ≡ 1) × (rounds ≡ 0))
+-- how many rounds are made from a state if each answer is no: one in each phase from its own on, but at most so many
+abbrev pub rounds_at_no_within : {T : Type 0} → ℕ → RoundMode T → T → ℕ
+rounds_at_no_within zero mode state = 0
+rounds_at_no_within (suc n) mode state = suc (option_map_or (λ next. rounds_at_no_within n mode next) (mode.next_phase state) 0)
+
+-- how many rounds are made from a state if each answer is no
+abbrev pub rounds_at_no : {T : Type 0} → RoundMode T → T → ℕ
+rounds_at_no mode state = rounds_at_no_within (suc (mode.measure state)) mode state
+
+-- So many rounds were made, where so many are made from what is asked if each answer is no. If a yes and then no's alone follow, the present one ends, and
+-- these; before the rounds these alone.
+abbrev pub CountsRounds : ℕ → Plan → ℕ → Type 0
+CountsRounds later (End result) rounds = rounds ≡ result.rounds
+CountsRounds later (Ask text at_yes at_no) rounds =
+    ((end_at_no at_yes).rounds ≡ capped_count (rounds + (1 + later))) ⊎ (((end_at_no at_yes).rounds ≡ capped_count later) × (rounds ≡ 0))

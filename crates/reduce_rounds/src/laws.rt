@@ -27,7 +27,9 @@ pub fn refuses_at_no<R: Round>()
 /// state that a round without a yes tries from there isn't listed, or its verdict is no.
 pub fn ends_minimal<R: Round>()
     ensures { (input : R.Input) → EndsMinimal (R.mode input) (R.Kept input) (λ state other. IsTriedAtNo ((R.mode input).round state) other) }
-{}
+{
+    R::phases_agree();
+}
 
 /// All that may be asked of a listed start is the text of a listed state that is kept.
 pub fn asks_candidates<R: Round>()

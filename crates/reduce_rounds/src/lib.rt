@@ -1,7 +1,8 @@
 //! The reduction of a start, in any mode: a mode says what a round tries, and [`Rounds`] makes one
 //! round after another until one has no yes.
 //!
-//! Read `specs/Reduction.antt` first: the reduction as a recursion over a verdict on every text. What a
+//! Read `specs/Reduction.antt` first: the reduction as a recursion over a verdict on every text. After a
+//! round without a yes a mode may have a next phase, whose rounds follow in the same way. What a
 //! mode brings is a type that implements [`Round`]: its states, their texts, which of them may be
 //! asked, what a round tries from a state, as a finite tree (`specs/Trials.antt`, `specs/Mode.antt`),
 //! and what holds of each state that it reaches. What it tries comes to a recursion

@@ -1,6 +1,6 @@
 //! A step that shows what it has come to.
 
-ghost use Rattle.std.specs.Prelude.{◌≡◌};
+ghost use Rattle.std.specs.Prelude.{◌≡◌, ℕ};
 ghost use Rattle.reduce_step.specs.Plan.{End, HasEnded, StepResult};
 ghost use Rattle.reduce_rounds.specs.Shown.{Shows};
 
@@ -11,6 +11,9 @@ use reduce_step::Step;
 pub trait ReducerStep: Step {
     /// What it has come to.
     ghost so_far: { Self → StepResult };
+
+    /// How many rounds are made from the state that it asks if each later answer is no.
+    ghost at_no: { Self → ℕ };
 
     /// The text of the last yes, at first the start.
     fn result(&self) -> &[u8]

@@ -4,8 +4,8 @@ ghost use Rattle.std.specs.Prelude.{◌≡◌, ◌≤◌, IsSome, IfSome, IfOk, 
 ghost use Rattle.std.specs.Option.{option_copied};
 ghost use Rattle.reduce_step.specs.Limits.{text_limit};
 ghost use Rattle.reduce_rounds.specs.Trials.{Done, Trials, is_done, state_after, tried_state, trials_after};
-ghost use Rattle.reduce_rounds.specs.Mode.{IsLawful, RoundMode};
-ghost use Rattle.reduce_rounds.specs.Fields.{listed_text};
+ghost use Rattle.reduce_rounds.specs.Mode.{IsLawful, PhasesAgree, RoundMode};
+ghost use Rattle.reduce_rounds.specs.Fields.{WentOn, listed_text};
 
 use faults::Memory;
 
@@ -64,6 +64,18 @@ pub trait Round {
         ensures state { OnOk result (state self.new ≡ state self.old) }
         ensures input { input self.new ≡ input self.old }
         ensures lawful { OnOk result (IsLawful (mode (input self.old)) (Kept (input self.old))) };
+
+    /// Goes on to the next phase, where there is one, and says whether there is.
+    fn next_phase(&mut self) -> Result<bool, Memory>
+        requires { rest self.old ≡ Done }
+        ensures state { IfOk result (WentOn ((mode (input self.old)).next_phase (state self.old)) (state self.old) (state self.new)) }
+        ensures rest { OnOk result (rest self.new ≡ Done) }
+        ensures input { input self.new ≡ input self.old };
+
+    /// A phase begins with the text and the units that the one before ended with: a caller calls this so
+    /// that its proof knows.
+    fn phases_agree()
+        ensures { (input : Input) → PhasesAgree (mode input) };
 
     /// A round that goes on by its own answers from the same state.
     fn copy(&self) -> Result<Self, Memory>

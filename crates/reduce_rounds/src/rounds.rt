@@ -1,13 +1,14 @@
 //! The reduction of a start, in any mode, as a machine.
 
-ghost use Rattle.std.specs.Prelude.{◌≡◌, ◌≤◌, length, OnOk, IsSome, IfOk, true, false};
+ghost use Rattle.std.specs.Prelude.{◌≡◌, ◌≤◌, length, OnOk, IsSome, IfOk, true, false, if◌then◌else◌, Some};
 ghost use Rattle.reduce_step.specs.Limits.{text_limit};
 ghost use Rattle.reduce_rounds.specs.Trials.{Done, state_after};
-ghost use Rattle.reduce_rounds.specs.Fields.{listed_text};
-ghost use Rattle.reduce_rounds.specs.inner.Fields.{Becomes, HasState, IsReady, IsTrying, StaysKept, listed_trials, plan_of, result_so_far, stage_after};
+ghost use Rattle.reduce_rounds.specs.Fields.{WentOn, listed_text};
+ghost use Rattle.reduce_rounds.specs.inner.Fields.{Becomes, HasState, IsReady, IsTrying, StaysKept, asked_state, listed_trials, plan_of, result_so_far};
+ghost use Rattle.reduce_rounds.specs.inner.Fields.{stage_after};
 ghost use Rattle.reduce_rounds.specs.inner.FieldProps.{ready_prop};
 ghost use Rattle.reduce_rounds.specs.RoundsPlan.{IsStart, plan_first, plan_rounds};
-ghost use Rattle.reduce_rounds.specs.Shown.{CountsRounds};
+ghost use Rattle.reduce_rounds.specs.Shown.{CountsRounds, rounds_at_no};
 ghost use Rattle.reduce_step.specs.Plan.{after as plan_after, asked};
 
 use crate::ahead::texts_at_no;
@@ -21,8 +22,8 @@ use std::alloc::Global;
 use std::mem;
 
 /// The reduction of a start: the start is asked first, then what the mode tries before its rounds,
-/// and then one round after another until a round has no yes. A state that isn't listed counts as
-/// no, and is neither asked nor counted.
+/// and then one round after another until a round has no yes. Where the mode has a next phase, its rounds
+/// follow in the same way. A state that isn't listed counts as no, and is neither asked nor counted.
 ///
 /// An answer costs what the mode's own answer costs, and so much again for each state that isn't
 /// listed before the next one that is; a yes costs a copy of its text too. Looking ahead costs a copy,
@@ -125,6 +126,8 @@ impl<R: Round + Drop> Step for Rounds<R> {
 impl<R: Round + Drop> ReducerStep for Rounds<R> {
     ghost so_far = { λ r. result_so_far r.progress };
 
+    ghost at_no = { λ r. rounds_at_no (R.mode (R.input r.round)) (asked_state (R.state r.round) (R.rest r.round) r.stage) };
+
     fn result(&self) -> &[u8] {
         self.progress.text.as_slice()
     }
@@ -139,12 +142,14 @@ impl<R: Round + Drop> ReducerStep for Rounds<R> {
 
     fn rounds(&self) -> u64
         ensures shown { result ≡ (⟦<Rounds<R> as ReducerStep>⟧.so_far self.now).rounds }
-        ensures made { CountsRounds (⟦<Rounds<R> as Step>⟧.plan self.now) result }
+        ensures made { CountsRounds (⟦<Rounds<R> as ReducerStep>⟧.at_no self.now) (⟦<Rounds<R> as Step>⟧.plan self.now) result }
     {
+        R::phases_agree();
         self.progress.rounds
     }
 
     fn refused(&self) -> bool {
+        R::phases_agree();
         self.progress.refused
     }
 }
@@ -268,6 +273,7 @@ fn to_question<R: Round>(
     ensures input { R.input round.new ≡ R.input round.old }
     ensures text { progress.new.text.items ≡ progress.old.text.items }
 {
+    R::phases_agree();
     pass(round)?;
     if !round.is_over() {
         return Ok(stage);
@@ -279,7 +285,8 @@ fn to_question<R: Round>(
         }
         Stage::Within(changed) => {
             progress.rounds = progress.rounds.saturating_add(1);
-            if changed {
+            let more = goes_on(round, changed)?;
+            if more {
                 let next = begin(round, progress)?;
                 Ok(next)
             } else {
@@ -290,7 +297,23 @@ fn to_question<R: Round>(
     }
 }
 
-/// Begins a round. Where it asks nothing, it is the last.
+/// Whether another round follows one that had a yes, or had none: after none it is the first of the next
+/// phase, if there is one.
+fn goes_on<R: Round>(round: &mut R, changed: bool) -> Result<bool, Memory>
+    requires { R.rest round.old ≡ Done }
+    ensures state { IfOk result (WentOn (if changed then Some (R.state round.old) else (R.mode (R.input round.old)).next_phase (R.state round.old))
+        (R.state round.old) (R.state round.new)) }
+    ensures rest { OnOk result (R.rest round.new ≡ Done) }
+    ensures input { R.input round.new ≡ R.input round.old }
+{
+    if changed {
+        return Ok(true);
+    }
+    round.next_phase()
+}
+
+/// Begins a round. Where it asks nothing, the first round of the next phase follows, and in the last
+/// phase it is the last.
 fn begin<R: Round>(round: &mut R, progress: &mut Progress) -> Result<Stage, Memory>
     requires over { R.rest round.old ≡ Done }
     requires state { HasState (R.mode (R.input round.old)) (R.state round.old) progress.old }
@@ -300,13 +323,19 @@ fn begin<R: Round>(round: &mut R, progress: &mut Progress) -> Result<Stage, Memo
     ensures input { R.input round.new ≡ R.input round.old }
     ensures text { progress.new.text.items ≡ progress.old.text.items }
 {
-    round.begin_round()?;
-    pass(round)?;
-    if round.is_over() {
+    R::phases_agree();
+    loop {
+        round.begin_round()?;
+        pass(round)?;
+        if !round.is_over() {
+            return Ok(Stage::Within(false));
+        }
         progress.rounds = progress.rounds.saturating_add(1);
-        return Ok(Stage::Ended);
+        let more = round.next_phase()?;
+        if !more {
+            return Ok(Stage::Ended);
+        }
     }
-    Ok(Stage::Within(false))
 }
 
 /// Passes over the states that aren't listed, which count as no.

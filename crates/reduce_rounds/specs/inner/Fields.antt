@@ -1,11 +1,11 @@
 -- Beside `../Fields.antt`: what private functions and proofs need.
-use Rattle.std.specs.Prelude.{◌≡◌, ◌≤◌, ◌+◌, ◌||◌, Bool, true, false, length, IsSome, if◌then◌else◌}
+use Rattle.std.specs.Prelude.{◌≡◌, ◌≤◌, ◌+◌, ◌||◌, Bool, true, false, length, IsSome, unwrap_or, if◌then◌else◌}
 use Rattle.reduce_step.specs.Limits.{text_limit}
 use Rattle.reduce_step.specs.Plan.{Plan, StepResult, End, Ask}
 use Rattle.reduce_rounds.specs.declared.stage.Stage.{Stage}
 use Rattle.reduce_rounds.specs.declared.stage.Stage.TheVariants.{Start, Opening, Within, Ended}
 use Rattle.reduce_rounds.specs.declared.stage.Progress.{Progress}
-use Rattle.reduce_rounds.specs.Trials.{Trials, Done, Try, AllTried}
+use Rattle.reduce_rounds.specs.Trials.{Trials, Done, Try, AllTried, tried_state}
 use Rattle.reduce_rounds.specs.Mode.{RoundMode, Keeps}
 use Rattle.reduce_rounds.specs.RoundsPlan.{plan_opening}
 use Rattle.reduce_rounds.specs.inner.RoundsPlan.{plan_round}
@@ -30,6 +30,13 @@ plan_of mode state rest Start progress =
 plan_of mode state rest Opening progress = plan_opening mode progress.rounds state rest progress.used
 plan_of mode state rest (Within changed) progress = plan_round mode progress.rounds state rest changed progress.used
 plan_of mode state rest Ended progress = End (result_so_far progress)
+
+-- the state that is asked now; the last yes where none is
+abbrev pub asked_state : {T : Type 0} → T → Trials T → Stage → T
+asked_state state rest Start = state
+asked_state state rest Opening = unwrap_or (tried_state rest) state
+asked_state state rest (Within changed) = unwrap_or (tried_state rest) state
+asked_state state rest Ended = state
 
 -- the last yes is this state
 pub record HasState {T : Type 0} (mode : RoundMode T) (state : T) (progress : Progress) : Type 0 where
