@@ -1,9 +1,10 @@
 -- Walks through the levels of a tree, as their contracts see them.
-use Rattle.std.proofs.Common.{◌≡◌, Bool, true, false, Option, Some, None, refl, sym}
+use Rattle.std.proofs.Common.{◌≡◌, ◌∙◌, Bool, true, false, Option, Some, None, refl, sym, ap}
 use Rattle.std.specs.Prelude.{is_some, not}
+use Rattle.std.proofs.lemmas.Bool.{false≢true}
 use Rattle.std.proofs.lemmas.Option.{none-some}
 use Rattle.normal_form.specs.Form.{NormalForm}
-use Rattle.reduce_rounds.specs.Trials.{is_done, tried_state}
+use Rattle.reduce_rounds.specs.Trials.{Done, is_done, tried_state}
 use Rattle.syntax_tree.specs.Trees.{PlainTree}
 use Rattle.syntax_tree.specs.Numbered.{NumbersRise}
 use Rattle.syntax_tree.specs.Valid.{IsTreeFor}
@@ -13,7 +14,7 @@ use Rattle.syntax_tree.specs.Nodes.{SyntaxTree, whole}
 use Rattle.syntax_tree_cut.specs.Cuts.{CutForm, cut_tree}
 use Rattle.hdd_levels.specs.Laws.{KeptTreesAreLeft, KeptTreesAreTrees}
 use Rattle.reduce_hdd.specs.declared.level_step.LevelStep.{LevelStep}
-use Rattle.reduce_hdd.specs.inner.Walking.{AreLevels, IsWalking, trials_within}
+use Rattle.reduce_hdd.specs.inner.Walking.{AreLevels, IsWalking, tree_left, trials_within}
 use Rattle.reduce_hdd.proofs.Steps.{not_done, tried_kept}
 
 -- whether nothing more is tried
@@ -31,3 +32,8 @@ pub walks_keep : KeptTreesAreTrees → KeptTreesAreLeft → LeftIsTransitive →
 walks_keep trees left both tree cut None are rise u e = absurd (none-some u e)
 walks_keep trees left both tree cut (Some s) are rise u e =
     tried_kept tree.form (cut_tree tree cut) s are.walking trees left both tree.start (whole tree) are.of.fits rise are.of.part u e
+
+-- where nothing more is tried, that is left which the cut leaves
+pub left_at_end : (N : NormalForm) (t : PlainTree) (step : Option LevelStep) → IsWalking N t step → trials_within N t step ≡ Done → tree_left t step ≡ t
+left_at_end N t None is over = refl
+left_at_end N t (Some s) is over = absurd (false≢true (sym (not_done N t s is) ∙ ap is_done over))

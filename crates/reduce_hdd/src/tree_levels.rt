@@ -89,6 +89,12 @@ impl<'a> TreeWalk for TreeLevels<'a> {
         }
     }
 
+    /// It takes time and memory linear in these tokens.
+    fn left_tokens(&self) -> Result<Vec<u32>, Memory> {
+        let tokens = self.cut.kept_tokens(self.alloc, self.tree)?;
+        Ok(tokens)
+    }
+
     fn tries_kept(&self) {
         let _ = &self.step;
         let _nodes = self.tree.nodes();

@@ -2,12 +2,13 @@
 use Rattle.std.proofs.Common.{◌≡◌, inr, ℕ, List, Bool, true, false, Option, Some, None, get_or, refl, sym, ap, ◌∙◌, subst}
 use Rattle.std.specs.Prelude.{IfSome, not}
 use Rattle.std.specs.Option.{is_some}
+use Rattle.std.proofs.lemmas.Bool.{false≢true}
 use Rattle.std.proofs.lemmas.Option.{none-some, same_Some}
 use Rattle.normal_form.specs.declared.normal.Sym.{Sym}
 use Rattle.normal_form.specs.Form.{NormalForm}
 use Rattle.list_ddmin.specs.Machine.{State, asks}
 use Rattle.node_queue.specs.Waiting.{Waiting}
-use Rattle.reduce_rounds.specs.Trials.{Trials, Try, is_done, tried_state}
+use Rattle.reduce_rounds.specs.Trials.{Trials, Done, Try, is_done, tried_state}
 use Rattle.reduce_list_trials.proofs.Lent.{by_asked, selection-asked}
 use Rattle.syntax_tree.specs.Trees.{PlainTree}
 use Rattle.syntax_tree.specs.Valid.{IsTreeFor}
@@ -21,7 +22,7 @@ use Rattle.reduce_perses_trials.specs.Queued.{IsKeptTree}
 use Rattle.reduce_perses_trials.specs.Laws.{GoesOn}
 use Rattle.reduce_perses.specs.declared.visit.Visit.{Visit}
 use Rattle.reduce_perses.specs.declared.visit.Visit.TheVariants.{Elements, Content, Descendants}
-use Rattle.reduce_perses.specs.inner.VisitTrials.{content_tried, elements_tried, trials_within, visit_trials}
+use Rattle.reduce_perses.specs.inner.VisitTrials.{content_tried, elements_tried, trials_within, tree_left, visit_trials}
 use Rattle.reduce_perses.specs.inner.Visiting.{AreDescendants, AreVisits, IsElements, IsVisit, IsVisiting, descendants_at}
 use Rattle.reduce_perses.proofs.ElementsLemmas as elements
 use Rattle.reduce_perses.proofs.ContentLemmas as content
@@ -89,6 +90,11 @@ module _ (N : NormalForm) (s : Sym) (t : PlainTree) (queue : List Waiting) where
   over_is None false is e = absurd (let no : false ≡ true = e in cc)
   over_is (Some visit) true is e = absurd (let no : true ≡ false = e in cc)
   over_is (Some visit) false is e = sym (not_done visit is)
+
+  -- where nothing more is tried, that is left which the cut leaves
+  pub left_at_end : (visit : Option Visit) → IsVisiting N s t queue visit → trials_within N s t queue visit ≡ Done → tree_left t visit ≡ t
+  left_at_end None is over = refl
+  left_at_end (Some visit) is over = absurd (false≢true (sym (not_done visit is) ∙ ap is_done over))
 
 -- What is tried is kept.
 pub visits_keep : (tree : SyntaxTree) (compat : NormalForm) (cut : CutForm) (queue : List Waiting) (visit : Option Visit)

@@ -26,8 +26,8 @@ pub use ends::{walks_ask_candidates, walks_begin, walks_end_minimal};
 pub use faults::Memory;
 pub use laws::{walks_are_lawful, walks_try_edits};
 pub use modes::{
-    hdd_is_its_recursion, hdd_reducer, hdd_rounds_are_levels, perses_is_its_recursion,
-    perses_reducer, perses_rounds_are_visits,
+    hdd_is_its_recursion, hdd_reducer, hdd_round, hdd_rounds_are_levels, perses_is_its_recursion,
+    perses_reducer, perses_round, perses_rounds_are_visits,
 };
 pub use parts::{HasInput, TreeParts};
 pub use reducer::{TreeReducer, tree_reducer};

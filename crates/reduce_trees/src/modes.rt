@@ -19,11 +19,26 @@ use reduce_hdd::TreeLevels;
 use reduce_hdd_trials::ends_by_levels;
 use reduce_perses::TreeVisits;
 use reduce_perses_trials::rounds_end_by_visits;
-use reduce_rounds::{ReducerStep, Rounds};
+use reduce_rounds::{ReducerStep, Round, Rounds};
 use reduce_step::Step;
 use reduce_trees_mode::{opening_is_one_test, rounds_keep_style};
 use std::alloc::Global;
 use syntax_tree::{left_is_part, whole_trees_rise};
+
+/// Before the first round of mode `perses`: the whole tree, and where it is asked for its squeezed text.
+pub fn perses_round<'a, F: Relation>(
+    alloc: Global,
+    parts: &'a TreeParts<F>,
+) -> Result<TreeRound<'a, F, TreeVisits<'a>>, Memory>
+    ensures input { IfOk result (λ round. ⟦<TreeRound<'a, F, TreeVisits<'a>> as Round>⟧.input round ≡ ⟦<TreeParts<F> as HasInput>⟧.input parts.now) }
+    ensures state { IfOk result (λ round. ⟦<TreeRound<'a, F, TreeVisits<'a>> as Round>⟧.state round
+        ≡ (perses_mode (⟦<TreeParts<F> as HasInput>⟧.input parts.now)).start) }
+    ensures rest { IfOk result (λ round. ⟦<TreeRound<'a, F, TreeVisits<'a>> as Round>⟧.rest round
+        ≡ (perses_mode (⟦<TreeParts<F> as HasInput>⟧.input parts.now)).opening) }
+{
+    let walk = TreeVisits::new(alloc, &parts.tree, &parts.compat)?;
+    TreeRound::new(alloc, parts, walk)
+}
 
 /// The reducer of mode `perses`: the reduction of what its parts are of, as [`tree_reducer`] says.
 pub fn perses_reducer<'a, F: Relation>(
@@ -60,6 +75,21 @@ pub fn perses_is_its_recursion()
     perses_rounds_are_visits();
     walks_are_lawful::<TreeVisits>();
     opening_is_one_test();
+}
+
+/// Before the first round of mode `hdd`: the whole tree, and where it is asked for its squeezed text.
+pub fn hdd_round<'a, F: Relation>(
+    alloc: Global,
+    parts: &'a TreeParts<F>,
+) -> Result<TreeRound<'a, F, TreeLevels<'a>>, Memory>
+    ensures input { IfOk result (λ round. ⟦<TreeRound<'a, F, TreeLevels<'a>> as Round>⟧.input round ≡ ⟦<TreeParts<F> as HasInput>⟧.input parts.now) }
+    ensures state { IfOk result (λ round. ⟦<TreeRound<'a, F, TreeLevels<'a>> as Round>⟧.state round
+        ≡ (hdd_mode (⟦<TreeParts<F> as HasInput>⟧.input parts.now)).start) }
+    ensures rest { IfOk result (λ round. ⟦<TreeRound<'a, F, TreeLevels<'a>> as Round>⟧.rest round
+        ≡ (hdd_mode (⟦<TreeParts<F> as HasInput>⟧.input parts.now)).opening) }
+{
+    let walk = TreeLevels::new(alloc, &parts.tree)?;
+    TreeRound::new(alloc, parts, walk)
 }
 
 /// The reducer of mode `hdd`: the reduction of what its parts are of, as [`tree_reducer`] says.

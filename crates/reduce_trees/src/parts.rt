@@ -88,6 +88,34 @@ impl<F: Relation + Drop> TreeParts<F> {
 }
 
 impl<F: Relation> TreeParts<F> {
+    /// The start's text.
+    pub fn start(&self) -> &str
+        ensures { result.now ≡ (⟦<TreeParts<F> as HasInput>⟧.input self.now).start }
+    {
+        self.start.text()
+    }
+
+    /// Its tokens.
+    pub fn tokens(&self) -> &Tokens
+        ensures { map token_of result.now.items.items ≡ (⟦<TreeParts<F> as HasInput>⟧.input self.now).tokens }
+    {
+        &self.tokens
+    }
+
+    /// The lexer of the grammar.
+    pub fn lexer(&self) -> &Lexer
+        ensures { result.now ≡ (⟦<TreeParts<F> as HasInput>⟧.input self.now).grammar }
+    {
+        self.start.lexer()
+    }
+
+    /// What says which candidates are admitted.
+    pub fn guard(&self) -> &Guard<F>
+        ensures { F.admits result.now ≡ (⟦<TreeParts<F> as HasInput>⟧.input self.now).admits }
+    {
+        &self.guard
+    }
+
     /// The parts are those of an input, whose start has at most 1,048,576 bytes: a caller calls this so
     /// that its proof knows.
     pub fn is_input(&self)

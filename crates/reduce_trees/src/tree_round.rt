@@ -1,12 +1,15 @@
 //! Rounds over what is left of a tree.
 
 ghost use Rattle.std.specs.Prelude.{◌≡◌, IfOk, if◌then◌else◌};
+ghost use Rattle.std.specs.List.Sorted.{IsStrictlyIncreasing};
+ghost use Rattle.syntax_tree.specs.Trees.{leaves};
 ghost use Rattle.token_print.specs.declared.style.Style.TheVariants.{Squeezed};
 ghost use Rattle.reduce_rounds.specs.Trials.{Done};
 ghost use Rattle.reduce_trees.specs.Fields.{IsTreeOf};
 ghost use Rattle.reduce_trees.specs.inner.Fields.{Agrees};
 ghost use Rattle.reduce_trees.specs.inner.FieldProps.{agrees_prop};
 ghost use Rattle.reduce_trees_mode.specs.InputOf.{input_of};
+ghost use Rattle.reduce_trees_mode.specs.Listed.{IsKept};
 ghost use Rattle.reduce_trees.specs.WalkMode.{walk_mode};
 
 use crate::laws::walks_are_lawful;
@@ -65,6 +68,35 @@ impl<'a, F: Relation, W: TreeWalk + Drop> TreeRound<'a, F, W> {
             walk,
             trial,
         })
+    }
+
+    /// The tokens of the last yes, where nothing more is tried, by their numbers, which rise. A round that is
+    /// spent after an error gives `Memory` again.
+    pub fn kept(&self) -> Result<Vec<u32>, Memory>
+        requires { ⟦<TreeRound<'a, F, W> as Round>⟧.rest self.now ≡ Done }
+        ensures tokens { IfOk result (λ kept. kept.items ≡ leaves (⟦<TreeRound<'a, F, W> as Round>⟧.state self.now).tree) }
+        ensures rising { IfOk result (λ kept. IsStrictlyIncreasing kept.items) }
+        ensures kept { IfOk result (λ kept. IsKept (⟦<TreeRound<'a, F, W> as Round>⟧.input self.now) (⟦<TreeRound<'a, F, W> as Round>⟧.state self.now)) }
+    {
+        if !self.walk.is_over() {
+            return Err(Memory);
+        }
+        let kept = self.walk.left_tokens()?;
+        Ok(kept)
+    }
+
+    /// The parts of the tree.
+    pub fn parts(&self) -> &'a TreeParts<F>
+        ensures { ⟦<TreeParts<F> as HasInput>⟧.input result.now ≡ ⟦<TreeRound<'a, F, W> as Round>⟧.input self.now }
+    {
+        self.parts
+    }
+
+    /// How the last yes is printed.
+    pub fn style(&self) -> Style
+        ensures { result ≡ (⟦<TreeRound<'a, F, W> as Round>⟧.state self.now).style }
+    {
+        self.style
     }
 }
 
@@ -137,6 +169,12 @@ impl<'a, F: Relation, W: TreeWalk + Drop> Round for TreeRound<'a, F, W> {
         self.trial = trial_of(self.alloc, self.parts, self.style, &self.walk)?;
         Ok(())
     }
+
+    fn next_phase(&mut self) -> Result<bool, Memory> {
+        Ok(false)
+    }
+
+    fn phases_agree() {}
 
     fn copy(&self) -> Result<TreeRound<'a, F, W>, Memory> {
         let walk = self.walk.copy()?;

@@ -15,8 +15,10 @@ is_lawful start opening stay input round of lawful =
             start = (start input of).kept;
             opening = opening input of;
             round = λ state kept. (stay input state (round state.tree)).kept kept (lawful.kept state.tree (kept.fits, kept.left));
+            phase = λ state kept. tt;
           };
       smaller = λ state kept. (stay input state (round state.tree)).smaller _ (lawful.smaller state.tree (kept.fits, kept.left));
+      phases = λ state kept. tt;
     }
 
 pub tries_trees : StylesStay → TreeModeTriesTrees

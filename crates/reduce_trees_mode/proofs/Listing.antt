@@ -2,8 +2,10 @@
 use Rattle.std.proofs.Common.{◌≡◌, ℕ, ◌<◌, Bool, true, false, List, length, map, slice_get, refl, sym, ap, ◌∙◌, subst}
 use Rattle.std.specs.Prelude.{◌&&◌}
 use Rattle.std.specs.List.{All, filter_map, range_with_len}
+use Rattle.std.specs.Str.{chars, IsUtf8}
 use Rattle.std.proofs.lemmas.List.{length-map}
 use Rattle.grammar_tree.specs.Lexes.{PlacedToken}
+use Rattle.lexer.specs.Tokens.{HasTokens}
 use Rattle.normal_form.specs.declared.normal.Sym.{Sym}
 use Rattle.normal_form.specs.declared.normal.Sym.TheVariants.{Rule}
 use Rattle.normal_form.specs.Form.{NormalForm}
@@ -74,18 +76,26 @@ module _ (input : TreeInput) (of : IsInput input) where
         subst (λ (N : NormalForm). NormalDerives N (Rule N.start) (kinds_of state.tree)) of.form_is
         (subst (λ (s : Sym). NormalDerives input.form s (kinds_of state.tree)) of.symbol_is (valid input.form input.symbol state.tree kept.fits.valid))
 
+    -- a text whose tokens have these kinds is in the language
+    pub language_by_kinds : ValidTreesAreDerived → LeavesKeepKinds → EqualLanguages → (text : List ℕ) → IsUtf8 text → (found : List PlacedToken)
+        → HasTokens input.grammar.grammar (chars text) found
+        → map (λ (t : PlacedToken). t.kind) found ≡ map (λ (t : PlacedToken). t.kind) (filter_map (slice_get input.tokens) (leaves state.tree))
+        → InLanguage input.grammar text
+    language_by_kinds valid keep equal text utf8 found has same =
+        record {
+          utf8 = utf8;
+          tokens = found;
+          has = has;
+          derived = ((equal input.grammar of.checked).starts (map (λ (t : PlacedToken). t.kind) found)).1
+              (subst (λ (w : List ℕ). NormalDerives (normal_of input.grammar) (Rule (normal_of input.grammar).start) w) (kinds_left keep ∙ sym same)
+              (derived valid));
+        }
+
     pub in_language : ValidTreesAreDerived → LeavesKeepKinds → KeptKinds → EqualLanguages → IsListed input state
         → InLanguage input.grammar (text_of_state input state)
     in_language valid keep kinds equal listed =
         let found = kinds input.grammar.grammar input.start input.tokens (leaves state.tree) (text_of_state input state) listed.keeps in
-        record {
-          utf8 = listed.keeps.utf8;
-          tokens = found.0;
-          has = found.1;
-          derived = ((equal input.grammar of.checked).starts (map (λ (t : PlacedToken). t.kind) found.0)).1
-              (subst (λ (w : List ℕ). NormalDerives (normal_of input.grammar) (Rule (normal_of input.grammar).start) w) (kinds_left keep ∙ sym found.2)
-              (derived valid));
-        }
+        language_by_kinds valid keep equal (text_of_state input state) listed.keeps.utf8 found.0 found.1 found.2
 
 pub listed_are_candidates : PrintedWithSkips → LeftIsPart → ValidTreesAreDerived → LeavesKeepKinds → KeptKinds → EqualLanguages → ListedAreCandidates
 listed_are_candidates printed part valid keep kinds equal input state of kept listed =

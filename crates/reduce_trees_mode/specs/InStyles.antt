@@ -1,5 +1,5 @@
 -- The reduction of trees, as a recursion over a verdict on every text.
-use Rattle.std.specs.Prelude.{◌≡◌, ◌&&◌, nat_lt, ℕ, Bool, List, length, if◌then◌else◌}
+use Rattle.std.specs.Prelude.{◌≡◌, ◌&&◌, nat_lt, ℕ, Bool, List, None, length, if◌then◌else◌}
 use Rattle.syntax_tree.specs.Trees.{PlainTree, leaves, weight}
 use Rattle.reduce_rounds.specs.StateTexts.{StateTexts}
 use Rattle.reduce_rounds.specs.Reduction.{Recursion, RoundEnd, end_at, tested}
@@ -45,4 +45,6 @@ tree_recursion round input =
       size = λ state. weight state.tree;
       opening = squeezed_first input;
       round = λ verdict state. end_in state.style (round (trees_in input state.style) verdict state.tree);
+      measure = λ state. weight state.tree;
+      next_phase = λ state. None;
     }

@@ -1,5 +1,5 @@
 -- A reduction of trees as a mode: what it tries.
-use Rattle.std.specs.Prelude.{◌&&◌, nat_lt, length, cond}
+use Rattle.std.specs.Prelude.{◌&&◌, nat_lt, None, length, cond}
 use Rattle.syntax_tree.specs.Trees.{PlainTree, leaves, weight}
 use Rattle.reduce_rounds.specs.Trials.{Trials, Done, Try}
 use Rattle.reduce_rounds.specs.Mode.{RoundMode}
@@ -30,4 +30,6 @@ tree_mode round input =
       size = λ state. weight state.tree;
       opening = opening_trials input;
       round = λ state. trials_in state.style (round state.tree);
+      measure = λ state. weight state.tree;
+      next_phase = λ state. None;
     }

@@ -48,6 +48,15 @@ pub trait TreeWalk {
         ensures fits { (tried : PlainTree) → tried_state (rest self.now) ≡ Some tried → IsTreeFor (tree self.now).form (tree self.now).start tried }
         ensures left { (tried : PlainTree) → tried_state (rest self.now) ≡ Some tried → IsRemainderOf (whole (tree self.now)) tried };
 
+    /// The tokens of what is left, where nothing more is tried, by their numbers, which rise. It is a tree
+    /// for the start symbol, and left of the whole tree.
+    fn left_tokens(&self) -> Result<Vec<u32>, Memory>
+        requires { rest self.now ≡ Done }
+        ensures tokens { IfOk result (λ tokens. tokens.items ≡ leaves (left self.now)) }
+        ensures rising { IfOk result (λ tokens. IsStrictlyIncreasing tokens.items) }
+        ensures fits { IsTreeFor (tree self.now).form (tree self.now).start (left self.now) }
+        ensures part { IsRemainderOf (whole (tree self.now)) (left self.now) };
+
     /// Takes the answer to the tree that is tried now. At yes it is left.
     fn answer(&mut self, yes: bool) -> Result<(), Memory>
         requires { IsSome (tried_state (rest self.old)) }

@@ -1,19 +1,19 @@
 -- Passing over parts of a printed text, one after another.
-use Rattle.std.proofs.Common.{◌≡◌, ◌≢◌, ◌<◌, ◌≤◌, ◌+◌, ◌↔◌, inl, inr, ℕ, suc, false, List, [], ◌∷◌, ◌++◌, drop, length, refl, sym, ap, ◌∙◌, subst, arith}
+use Rattle.std.proofs.Common.{◌≡◌, ◌≢◌, ◌<◌, ◌≤◌, ◌+◌, ◌↔◌, inl, inr, ℕ, suc, false, List, [], ◌∷◌, ◌++◌, drop, length, refl, ap, subst, arith}
 use Rattle.std.specs.Prelude.{encode_utf8_all}
 use Rattle.std.specs.Str.{chars, IsCharBoundary, IsUtf8}
-use Rattle.std.proofs.lemmas.List.{append_cancel_left, drop_all, length-drop}
-use Rattle.std.proofs.lemmas.List.Elements.{filter-append}
-use Rattle.std.proofs.lemmas.Str.{IsUtf8-drop, chars-nil, encodes-chars}
+use Rattle.std.proofs.lemmas.List.{length-drop}
+use Rattle.std.proofs.lemmas.Str.{IsUtf8-drop, encodes-chars}
 use Rattle.grammar_tree.specs.Written.{WrittenGrammar}
 use Rattle.grammar_tree.specs.Lexes.{IsNext, LexesTo, Piece, tokens_of}
 use Rattle.lexer.specs.Pieces.{HasNoPieceAt}
 use Rattle.token_print.specs.declared.joins.Joins.{Joins}
 use Rattle.token_print.specs.declared.joins.Progress.{Progress}
-use Rattle.token_print.specs.inner.Joins.{IsKeptFrom, IsPassed, ReadsFewFrom, items_of, runs_of, spelled_from, uncarried_from}
+use Rattle.token_print.specs.inner.Joins.{IsKeptFrom, IsPassed, ReadsFewFrom, SpellsFrom, items_of, runs_of, spelled_from, uncarried_from}
 use Rattle.token_print.specs.Reads.{IsEndWith}
 use Rattle.token_print.specs.Runs.{is_carried}
-use Rattle.token_print.proofs.Lexing.{lexes_append, none_at_end, none_left, none_read, size_of, sizes, through, uncarried_one, uncarried_over}
+use Rattle.token_print.proofs.Lexing.{none_left, size_of, sizes, through, uncarried_one, uncarried_over}
+use Rattle.token_print.proofs.Rests.{some_rest, spells_at_end, spells_none, spells_nothing, spells_on}
 
 module _ (G : WrittenGrammar) (j : Joins) where
   -- nothing was passed
@@ -61,26 +61,16 @@ module _ (G : WrittenGrammar) (j : Joins) where
     size_between at to middle begins ends lexed = omega (arith, rest_size at begins, rest_size to ends, sizes G lexed)
 
     some_left : (at : ℕ) → IsCharBoundary j.text.now at → at < length j.text.now → rest_at at ≢ []
-    some_left at boundary h e = omega (arith, rest_size at boundary, ap (λ l. length (encode_utf8_all l)) e, h)
+    some_left at boundary h = some_rest G j.text.now utf8 at boundary h
 
     module _ (p q : Progress) (middle : List Piece) (lexed : LexesTo G (rest_at p.at) middle (rest_at q.at)) where
       -- The tokens of a part that was read are the next kept ones.
       pub keeps_on : spelled_from j p.found ≡ tokens_of G middle ++ spelled_from j q.found → IsKeptFrom G j p ↔ IsKeptFrom G j q
-      keeps_on next = (
-        λ (found, all, same).
-            let (rest, is, more) = through G lexed all (none_at_end G) in (
-              rest,
-              more,
-              append_cancel_left (tokens_of G middle) (tokens_of G rest) (spelled_from j q.found)
-                  (sym (filter-append _ middle rest) ∙ ap (tokens_of G) (sym is) ∙ same ∙ next),
-            ),
-        λ (rest, more, same). (middle ++ rest, lexes_append G lexed more, filter-append _ middle rest ∙ ap (λ l. tokens_of G middle ++ l) same ∙ sym next),
-      )
+      keeps_on next = spells_on G j.text.now p.at q.at middle lexed (spelled_from j p.found) (spelled_from j q.found) next
 
       -- They aren't.
       pub keeps_none : ((rest : List Piece) → ¬ (spelled_from j p.found ≡ tokens_of G middle ++ rest)) → ¬ IsKeptFrom G j p
-      keeps_none others (found, all, same) =
-          let (rest, is, more) = through G lexed all (none_at_end G) in others (tokens_of G rest) (sym same ∙ ap (tokens_of G) is ∙ filter-append _ middle rest)
+      keeps_none others = spells_none G j.text.now p.at q.at middle lexed (spelled_from j p.found) others
 
       module _ (begins : IsCharBoundary j.text.now p.at) (ends : IsCharBoundary j.text.now q.at) (few : q.found ≤ length j.kept.now)
           (next : spelled_from j p.found ≡ tokens_of G middle ++ spelled_from j q.found) where
@@ -144,21 +134,10 @@ module _ (G : WrittenGrammar) (j : Joins) where
 
       -- where no rule matches, the rest has no tokens
       pub keeps_nothing : (p : Progress) → p.at ≡ at → HasNoPieceAt G j.text.now at → ¬ IsKeptFrom G j p
-      keeps_nothing p here none (found, lexed, same) =
-          let P : ℕ → Type 0 = λ n. LexesTo G (rest_at n) found [] in by (subst P here lexed)
-        where
-          by : {found : List Piece} → LexesTo G (rest_at at) found [] → ⊥
-          by lexed = pick lexed refl refl
-            where
-              pick : {text left : List ℕ} {found : List Piece} → LexesTo G text found left → text ≡ rest_at at → left ≡ [] → ⊥
-              pick (LexesTo.by_end text) e l = some_left at begins inside (sym e ∙ l)
-              pick (LexesTo.by_piece text k w r l found next more) e last = none k w r (sym e ∙ next.cut) next.some next.matched
+      keeps_nothing p here none kept =
+          let P : ℕ → Type 0 = λ n. SpellsFrom G j.text.now n (spelled_from j p.found) in
+          spells_nothing G j.text.now utf8 at begins inside (spelled_from j p.found) none (subst P here kept)
 
     -- at the end nothing is left
     pub keeps_at_end : (p : Progress) → length j.text.now ≤ p.at → IsKeptFrom G j p ↔ (spelled_from j p.found ≡ [])
-    keeps_at_end p end =
-        let none : rest_at p.at ≡ [] = ap chars (drop_all p.at j.text.now end) ∙ chars-nil in
-        let P : List ℕ → Type 0 = λ t. LexesTo G t [] [] in (
-          λ (found, lexed, same). sym same ∙ ap (tokens_of G) (none_read G (rest_at p.at) lexed none),
-          λ e. ([], subst P (sym none) (LexesTo.by_end []), sym e),
-        )
+    keeps_at_end p end = spells_at_end G j.text.now p.at (spelled_from j p.found) end

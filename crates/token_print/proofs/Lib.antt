@@ -14,6 +14,7 @@ mod Carried
 mod StartFacts
 mod Running
 mod Lexing
+mod Rests
 mod Going
 mod StartPieces
 mod Passing
