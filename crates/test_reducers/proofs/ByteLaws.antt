@@ -46,10 +46,11 @@ keeps start = record {
   start = omega arith;
   opening = (marked start, (tt, tt));
   round = kept-round start;
+  phase = λ text kept. tt;
 }
 
 pub is_lawful : (start : List ℕ) → IsLawful (byte_mode start) (IsNoLonger start)
-is_lawful start = record { keeps = keeps start; smaller = λ text kept. smaller-round text }
+is_lawful start = record { keeps = keeps start; smaller = λ text kept. smaller-round text; phases = λ text kept. tt }
 
 pub tries_edits : (start : List ℕ) → TriesEdits (byte_mode start) (IsNoLonger start) IsByteEdit
 tries_edits start text other kept edit =

@@ -1,3 +1,4 @@
 mod ByteLaws
 mod RoundLemmas
 mod Ready
+mod Spellings

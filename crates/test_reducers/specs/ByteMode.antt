@@ -1,6 +1,6 @@
 -- A mode for tests: the state is a text whose first byte is a mark. The mark is changed once at first, to byte 9;
 -- a round deletes byte by byte after the mark, from left to right; the mark alone isn't listed.
-use Rattle.std.specs.Prelude.{◌≡◌, ◌+◌, ◌-◌, ◌<◌, ◌≤◌, ℕ, zero, suc, List, ◌∷◌, length, remove, drop, nat_lt}
+use Rattle.std.specs.Prelude.{◌≡◌, ◌+◌, ◌-◌, ◌<◌, ◌≤◌, ℕ, zero, suc, List, ◌∷◌, None, length, remove, drop, nat_lt}
 use Rattle.reduce_rounds.specs.Trials.{Trials, Done, Try}
 use Rattle.reduce_rounds.specs.Mode.{RoundMode}
 
@@ -17,6 +17,8 @@ byte_mode start = record {
   size = λ text. length text;
   opening = Try (9 ∷ drop 1 start) Done Done;
   round = λ text. deletions_from (length text - 1) text 1;
+  measure = λ text. length text;
+  next_phase = λ text. None;
 }
 
 -- the text has at most as many bytes after the mark as the start

@@ -9,5 +9,6 @@ mod laws;
 mod lines;
 mod looking;
 mod rounds;
+mod spelling;
 mod trees;
 mod waiting;

@@ -88,6 +88,7 @@ fn copy_of(next: &Option<Vec<u8>>) -> Result<Option<Vec<u8>>, Memory>
 
 impl<'a> Round for ByteRound<'a> {
     ghost use Rattle.std.specs.Prelude.{List, ℕ};
+    ghost use Rattle.reduce_rounds.specs.Mode.{PhasesAgree};
     ghost use Rattle.test_reducers.specs.Fields.{rest_at};
 
     ghost Input = { List ℕ };
@@ -147,6 +148,14 @@ impl<'a> Round for ByteRound<'a> {
         self.next = without(self.alloc, &self.text, 1)?;
         Ok(())
     }
+
+    fn next_phase(&mut self) -> Result<bool, Memory> {
+        Ok(false)
+    }
+
+    fn phases_agree()
+        ensures { (start : List ℕ) → PhasesAgree (byte_mode start) }
+    {}
 
     fn copy(&self) -> Result<ByteRound<'a>, Memory> {
         Ok(ByteRound {

@@ -3,4 +3,4 @@ use Rattle.reduce_rounds.proofs.Lent as lemmas
 use Rattle.test_reducers.proofs.tests.laws.ends_minimal.Goals as goal
 
 pub returns : goal.returns
-returns c = λ start. lemmas.ends_minimal (byte_mode start) (IsNoLonger start) IsByteEdit
+returns c = λ start. lemmas.ends_minimal (byte_mode start) (IsNoLonger start) IsByteEdit (λ text. tt)

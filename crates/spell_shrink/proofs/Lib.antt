@@ -1,0 +1,34 @@
+mod SpelledWords
+mod WordOrder
+mod SortedWords
+mod BuiltWords
+mod ShorterWords
+mod Marks
+mod Changed
+mod WordPrinting
+mod ChangedTexts
+mod Taking
+mod Moves
+mod Boundaries
+mod Trying
+mod Expecting
+mod Copies
+mod MarkedPieces
+mod ChangedPieces
+mod Rereading
+mod Choosing
+mod Neighbours
+mod Own
+mod OwnPrints
+mod Phases
+mod PhaseLemmas
+mod StepCopies
+mod StepLemmas
+mod Lawful
+mod Recursions
+mod Reductions
+mod Ends
+mod TrialLemmas
+mod StepFields
+pub mod Crossing
+pub mod Lent
