@@ -8,7 +8,7 @@ import sys
 from pathlib import Path
 
 from .chain import Chain
-from .steps import MODES, Run
+from .steps import MODES, RESPELL, Run
 from .stops import BAD_COMMAND_LINE, CANNOT_READ, CANNOT_START, CANNOT_WRITE, Stopped
 
 PERSES = Path(__file__).resolve().parent.parent.parent / "perses"
@@ -26,6 +26,7 @@ def words():
     parser.add_argument("--grammar", required=True, metavar="F", help="the grammar of the input; it goes to the runs by a grammar, as do --start and --squeeze")
     parser.add_argument("--start", metavar="R", help="the rule that derives the input")
     parser.add_argument("--squeeze", action="store_true", help="try the input with a newline or a blank between all tokens")
+    parser.add_argument("--respell", action="store_true", help="after the last mode also a run in mode perses that tries shorter spellings")
     parser.add_argument("--modes", type=modes, default=list(MODES), metavar="M,..", help="the modes in their order; without it hdd,perses,lines")
     parser.add_argument("--folder", metavar="D", help="where the steps are kept; without it the output's name followed by .chain")
     parser.add_argument("--perses", default=str(PERSES), metavar="F", help="the program; without it that of this repository or installation")
@@ -46,6 +47,8 @@ def main():
         return refused(BAD_COMMAND_LINE, "a chain has modes and journals of its own: no --mode, --journal or --resume")
     if any(word.split("=")[0] in ("--protect", "--only") for word in passed_on):
         return refused(BAD_COMMAND_LINE, "each step of a chain has other line numbers: neither --protect nor --only")
+    if arguments.respell and any(word.split("=")[0] == "--protect-text" for word in passed_on):
+        return refused(BAD_COMMAND_LINE, "lines that must stay are not respelled: --respell without --protect-text")
     try:
         return reduce(arguments, passed_on)
     except Stopped as stopped:
@@ -61,7 +64,7 @@ def reduce(arguments, passed_on):
         raise Stopped(CANNOT_START, f"{arguments.script} is not executable")
     run = Run(arguments.perses, arguments.grammar, script, options(arguments), passed_on)
     folder = Path(arguments.folder or f"{arguments.output}.chain")
-    chain = Chain(folder, arguments.modes, run, os.path.basename(arguments.input))
+    chain = Chain(folder, steps(arguments), run, os.path.basename(arguments.input))
     chain.open(texts["input"], call_of(arguments, passed_on, texts))
     chain.reduce()
     try:
@@ -70,6 +73,11 @@ def reduce(arguments, passed_on):
         raise Stopped(CANNOT_WRITE, f"{arguments.output}: {error.strerror}") from error
     print(chain.report(), end="")
     return 0
+
+
+def steps(arguments):
+    """What is done in turn: a run in each mode, and where it is asked for one that respells."""
+    return arguments.modes + ([RESPELL] if arguments.respell else [])
 
 
 def options(arguments):
@@ -81,7 +89,7 @@ def options(arguments):
 def call_of(arguments, passed_on, texts):
     """What a folder's steps were made of. A call with anything else can't go on with them."""
     sums = {name: hashlib.sha256(text).hexdigest() for name, text in texts.items()}
-    return json.dumps({"modes": arguments.modes, "options": options(arguments) + kept(passed_on), **sums}, sort_keys=True) + "\n"
+    return json.dumps({"modes": steps(arguments), "options": options(arguments) + kept(passed_on), **sums}, sort_keys=True) + "\n"
 
 
 def kept(passed_on):

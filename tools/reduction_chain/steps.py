@@ -10,9 +10,11 @@ from journal_reader.reading import BadEvent, BadHead, read_journal
 
 from .stops import CANNOT_READ, CANNOT_START, Stopped
 
-# The options of each mode's runs; those by a grammar have the grammar and its options too.
+# The options of each mode's runs; those by a grammar have the grammar and its options too. A run in mode perses comes before what is respelled.
 MODES = {"hdd": ["--mode", "hdd"], "perses": ["--mode", "perses"], "lines": ["--mode", "lines"]}
-BY_GRAMMAR = ("hdd", "perses")
+RESPELL = "respell"
+OPTIONS = {**MODES, RESPELL: ["--mode", "perses", "--respell"]}
+BY_GRAMMAR = ("hdd", "perses", RESPELL)
 
 # What a run by a grammar ends with where the text is none of its language.
 NOT_DERIVED = (6, 7)
@@ -40,7 +42,7 @@ class Run(NamedTuple):
     def words(self, mode):
         """The words of a run in this mode but for its files."""
         by_grammar = ["--grammar", self.grammar, *self.grammar_options] if mode in BY_GRAMMAR else []
-        return [self.program, "reduce", *MODES[mode], *by_grammar, *self.passed_on]
+        return [self.program, "reduce", *OPTIONS[mode], *by_grammar, *self.passed_on]
 
 
 class Failed(Exception):

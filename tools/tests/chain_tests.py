@@ -15,8 +15,9 @@ from journal_reader.reading import read_journal
 
 CHAIN = TOOL.parent / "perses-chain"
 
-# Deletes words (mode hdd), takes a word in brackets out of them (mode perses), or deletes lines, one at a time. A text with the
-# word `odd` is none of its language. It notes its words and gives the candidate the input's name, as perses does.
+# Deletes words (mode hdd), takes a word in brackets out of them (mode perses), or deletes lines, one at a time. With --respell
+# each word then takes the place of a longer one. A text with the word `odd` is none of its language. It notes its words and
+# gives the candidate the input's name, as perses does.
 PROGRAM = f"#!{sys.executable} -S" + r'''
 import re, subprocess, sys
 from pathlib import Path
@@ -61,6 +62,15 @@ while again:
             text, again = changed, True
         else:
             at += 1
+if "--respell" in words:
+    shortest_first = sorted(set(start.split()), key=lambda word: (len(word), word))
+    for at, part in enumerate(parts(text)):
+        for word in [word for word in shortest_first if part.strip() and len(word) < len(part)]:
+            found = parts(text)
+            changed = b"".join(found[:at] + [word] + found[at + 1:])
+            if ask(changed):
+                text = changed
+                break
 Path(value["--output"]).write_bytes(text)
 print(f"units: {len(parts(start))} -> {len(parts(text))}\nbytes: {len(start)} -> {len(text)}\nrounds: {rounds}\nused: {used}\nrecords: {len(known)}")
 '''
@@ -163,6 +173,16 @@ class ChainTests(unittest.TestCase):
         self.assertTrue(by_grammar.startswith("reduce --mode hdd --grammar grammar --start file --squeeze --keep x y --work w --keep=( --input"), by_grammar)
         self.assertTrue(lines.startswith("reduce --mode lines --keep x y --work w --keep=( --input"), lines)
 
+    def test_respells_after_the_last_mode(self):
+        self.write("input", "seven six x\n")
+        self.write("script", "#!/bin/sh\necho >>asked\ngrep -Eq '[a-z]+ [a-z]+ x' \"$1\"\n", 0o755)
+        done = self.run_chain("--respell", "--start", "file", "--modes", "hdd,lines", "--keep", "x")
+        self.assertEqual((done.returncode, self.read("out")), (0, "x x x\n"))
+        self.assertEqual(self.modes_run(), ["hdd", "lines", "perses"] * 2)
+        self.assertTrue(self.read("words").splitlines()[2].startswith("reduce --mode perses --respell --grammar grammar --start file --keep x --input"))
+        self.assertIn("step 3, respell: bytes 12 -> 6, ", done.stdout)
+        self.assertEqual(self.run_chain("--modes", "hdd,lines", "--start", "file", "--keep", "x").returncode, 2)
+
     def test_candidates_have_the_name_of_the_input(self):
         self.write("script", '#!/bin/sh\ncase $1 in */1/input) grep -q x "$1" ;; *) exit 1 ;; esac\n', 0o755)
         self.assertEqual((self.run_chain().returncode, self.read("out")), (0, RESULT))
@@ -216,7 +236,7 @@ class ChainTests(unittest.TestCase):
         self.assertLess(len(self.asked()), 3)
 
     def test_refuses_what_it_can_not_do(self):
-        for status, more in [(2, ["--mode", "hdd"]), (2, ["--journal=j"]), (2, ["--protect", "1-2"]), (2, ["--only=1-2"]), (2, ["--modes", "hdd,hdd"]), (2, ["--modes", ""]), (11, ["--perses", "./none"])]:
+        for status, more in [(2, ["--mode", "hdd"]), (2, ["--journal=j"]), (2, ["--protect", "1-2"]), (2, ["--only=1-2"]), (2, ["--respell", "--protect-text=x"]), (2, ["--modes", "respell"]), (2, ["--modes", "hdd,hdd"]), (2, ["--modes", ""]), (11, ["--perses", "./none"])]:
             with self.subTest(more=more):
                 self.assertEqual(self.run_chain(*more).returncode, status)
         self.write("script", SCRIPT, 0o644)

@@ -65,7 +65,7 @@ class Options(unittest.TestCase):
                 self.assertEqual(sorted(named(command)), sorted(options_of_table(command)))
 
     def test_table_is_found(self):
-        self.assertEqual([len(options_of_table(command)) for command in COMMANDS], [16, 3, 3, 9])
+        self.assertEqual([len(options_of_table(command)) for command in COMMANDS], [17, 3, 3, 9])
 
     def test_usage_names_each_option(self):
         self.are_those_of_the_table(options_of_usage)
