@@ -40,7 +40,8 @@ _perses() {
     [[ ${COMP_WORDS[*]} =~ \ --mode\ (=\ )?lines( |$) ]] && by_grammar=''
     case $command in
     reduce)
-        options="--input --output --script --mode --jobs --journal --resume --work --keep --protect --protect-text --only $by_grammar"
+        options="--input --output --script --mode --jobs --journal --resume --work --keep --protect --protect-text --only --respell $by_grammar"
+        [[ $by_grammar ]] || options=${options/ --respell/}
         ;;
     normal) options='--grammar --lexer --start' ;;
     selftest) options='--number --size --mode' ;;

@@ -97,6 +97,7 @@ module _ (mode : TreeMode) (input : TreeInput) where
                 rule_too records by (text_of_state input other) No
                 (is.minimal other (subst (λ (r : rounds.Reduction TreeState). IsEditIn (IsEditBy mode input.form input.symbol) r.state other) (sym one) edit)
                 lists);
+            respells = tt;
           }
 
       -- the lines and the text are the summary over each map that agrees with the rule

@@ -37,7 +37,7 @@ short text size most within = omega (arith, most, within)
 -- what is found in a program is its problem
 pub is_case : (mode : TreeMode) (number size : ℕ) (grammar : CheckedGrammar) (found : ParsedInput) → Spells mini_text None grammar
     → IsParsed grammar (case_text number size) found → MakesInputOf grammar (case_text number size) found
-    → (problem : Problem) × IsReadAs admits_all (read.Tree found mode false) problem × IsCaseProblem mode number size problem
+    → (problem : Problem) × IsReadAs admits_all (read.Tree found mode false false) problem × IsCaseProblem mode number size problem
 is_case mode number size grammar found spelled parsed makes =
     let formed : IsWellFormed found.lexer.grammar found.lexer.start = (checked grammar (case_text number size) found spelled.checked parsed).well_formed in
     let input = tree_input found formed admits_all false in (

@@ -62,6 +62,7 @@ fn case_problem(
             found,
             mode,
             squeeze: false,
+            respell: false,
         }),
         Err(InputFault::Memory) => Err(Memory),
         // Each program is in the grammar's language.

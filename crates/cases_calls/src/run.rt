@@ -130,6 +130,8 @@ pub fn run_shown<W: Threads + Wait + Sync>(
     }
     match case.rule {
         0 => by_rule::<0, W>(rt, alloc, case, words),
+        61 => by_rule::<61, W>(rt, alloc, case, words),
+        97 => by_rule::<97, W>(rt, alloc, case, words),
         98 => by_rule::<98, W>(rt, alloc, case, words),
         255 => by_rule::<255, W>(rt, alloc, case, words),
         23121 => by_rule::<23121, W>(rt, alloc, case, words),

@@ -1,13 +1,13 @@
 -- The files of a run that came to its end are confirmed.
-use Rattle.std.proofs.Common.{◌≡◌, ◌∙◌, ℕ, zero, suc, Bool, true, false, cond, List, [], ◌∷◌, Some, refl, sym, ap, true≢false}
+use Rattle.std.proofs.Common.{◌≡◌, ◌∙◌, ℕ, Bool, false, cond, List, [], ◌∷◌, Some, refl, sym, ap, true≢false}
 use Rattle.std.proofs.lemmas.Slice.Eq.{bytes_eq-Decides}
 use Rattle.script_gate_trait.specs.declared.gate.Verdict.{Verdict}
 use Rattle.script_gate_trait.specs.declared.gate.Verdict.TheVariants as verdict
 use Rattle.verdict_table.specs.declared.record.Record.{Record}
 use Rattle.verdict_table.specs.TableState.{verdict_in}
 use Rattle.reduce_journal.specs.History.{records_of}
-use Rattle.reduce_rounds.specs.Reduction.{Recursion, Reduction, RoundEnd, after_opening, ends_with, next_rounds, reduction, rounds_of, rounds_within}
 use Rattle.reduce_rounds.specs.Verdicts.{is_yes, says_yes}
+use Rattle.reduce_rounds.proofs.Lent.{start_not_refused}
 use Rattle.reduce_core.specs.Reduction.{Admits}
 use Rattle.reduce_core.proofs.Lent.{text-numbered_lines}
 use Rattle.reduce_trees_mode.specs.Laws.{WholeIsStart}
@@ -15,31 +15,6 @@ use Rattle.run_gated.specs.Records.{FirstIs}
 use Rattle.run_problem.specs.Laws.{HistoriesGoByQuestions}
 use Rattle.run_problem.specs.Problem.{IsProblem, Problem, recursion_of, refuses, start_text}
 use Rattle.cert_check.specs.Laws.{FinishedRunsAreConfirmed}
-
--- ---- a reduction whose start has a yes doesn't refuse it
-
-module _ {T : Type 0} (recursion : Recursion T) (verdict : List ℕ → Bool) where
-  next : (go : T → Reduction T) → ((state : T) → (go state).refused ≡ false) → (round : RoundEnd T) → (next_rounds go round).refused ≡ false
-  next go each round = by round.changed
-    where
-      by : (changed : Bool) → (cond changed (go round.state) (ends_with round.state false)).refused ≡ false
-      by true = each round.state
-      by false = refl
-
-  rounds_go_on : (n : ℕ) (state : T) → (rounds_within n recursion verdict state).refused ≡ false
-  unfolding rounds_within
-  rounds_go_on zero state = refl
-  rounds_go_on (suc n) state =
-      next (λ remaining. rounds_within n recursion verdict remaining) (λ remaining. rounds_go_on n remaining) (recursion.round verdict state)
-
-  pub goes_on : verdict (recursion.text recursion.start) ≡ true → (reduction recursion verdict).refused ≡ false
-  unfolding reduction rounds_of
-  goes_on at_start =
-      let opened : Reduction T = after_opening (recursion.opening verdict) (rounds_of recursion verdict (recursion.opening verdict).state) in
-      ap (λ (b : Bool). (cond b opened (ends_with recursion.start true)).refused) at_start
-      ∙ rounds_go_on (suc (recursion.size (recursion.opening verdict).state)) (recursion.opening verdict).state
-
--- ---- the start's verdict
 
 -- what is the first record's verdict is its text's
 first_verdict : (text : List ℕ) (v : Verdict) (rs : List Record) → FirstIs text v rs → verdict_in rs text ≡ Some v
@@ -53,11 +28,12 @@ begins_with : WholeIsStart → (guard : Admits) (problem : Problem) → IsProble
     → (recursion_of guard problem).text (recursion_of guard problem).start ≡ start_text problem
 begins_with whole guard (Problem.of_lines start) is = text-numbered_lines start
 begins_with whole guard (Problem.of_tree mode input) is = (whole input is).text
+begins_with whole guard (Problem.of_respelling mode input) is = (whole input is).text
 
 not_refused : WholeIsStart → (guard : Admits) (problem : Problem) → IsProblem problem → (rs : List Record) → FirstIs (start_text problem) verdict.Yes rs
     → refuses guard problem (verdict_in rs) ≡ false
 not_refused whole guard problem is rs first =
-    goes_on (recursion_of guard problem) (says_yes (verdict_in rs))
+    start_not_refused (recursion_of guard problem) (says_yes (verdict_in rs))
     (ap (λ (text : List ℕ). says_yes (verdict_in rs) text) (begins_with whole guard problem is)
     ∙ ap is_yes (first_verdict (start_text problem) verdict.Yes rs first))
 

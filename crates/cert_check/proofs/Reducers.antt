@@ -27,9 +27,13 @@ use Rattle.reduce_trees_mode.specs.Candidates.{IsCandidate}
 use Rattle.reduce_trees_mode.specs.Input.{IsInput, TreeInput, TreeState}
 use Rattle.reduce_trees_mode.specs.Listed.{IsKept, text_of_state}
 use Rattle.syntax_tree.specs.Trees.{leaves}
+use Rattle.spell_shrink.specs.Laws.{IsSpellCandidate, SpellersAreRecursions}
+use Rattle.spell_shrink.specs.Respelled.{SpellState}
+use Rattle.spell_shrink.specs.SpellMode.{IsKeptInPhase, spell_mode}
 use Rattle.run_problem.specs.Problem.{IsEditBy, IsReductionOf, Problem, questions_of, recursion_of, reduction_of, refuses}
 use Rattle.run_problem.specs.Reducer.{round_trials}
-use Rattle.run_problem.specs.TreeMode.{IsTreeMode}
+use Rattle.run_problem.specs.TreeMode.{IsSpellMode, IsTreeMode}
+use Rattle.run_problem.proofs.Lent.{spelled_reduction}
 use Rattle.cert_check.specs.Laws.{ConfirmedAreReductions, ReducersAreReductions, ReducersAskCandidates}
 
 -- What a machine is of one recursion it is of each with the same reductions and results.
@@ -53,17 +57,32 @@ module _ (mode : TreeMode) (recursions : WalksAreRecursions mode (round_trials m
       moved (plan_first trees) (recursion_of guard (Problem.of_tree mode input)) (trials.recursion_of trees) (λ verdict. recursions input verdict is)
       (λ r. refl) V (follows_reduction trees V)
 
+-- the same with the respelling that follows
+module _ (mode : TreeMode) (recursions : SpellersAreRecursions (round_trials mode) mode) (input : TreeInput) (is : IsInput input) where
+  abbrev both : RoundMode SpellState
+  both = spell_mode (round_trials mode) input
+
+  speller_is : (guard : Admits) (V : List ℕ → Option Verdict) → IsTheReduction (plan_first both) (recursion_of guard (Problem.of_respelling mode input)) V
+  speller_is guard V =
+      moved (plan_first both) (recursion_of guard (Problem.of_respelling mode input)) (trials.recursion_of both) (λ verdict. recursions input verdict is)
+      (λ r. refl) V (follows_reduction both V)
+
 pub reducers_are_reductions : lines.FollowsLines → WalksAreRecursions Perses (round_trials Perses) → WalksAreRecursions Hdd (round_trials Hdd)
-    → ReducersAreReductions
-reducers_are_reductions follows visits levels guard (Problem.of_lines start) is V = follows guard V start
-reducers_are_reductions follows visits levels guard (Problem.of_tree Perses input) is V = tree_is Perses visits input is guard V
-reducers_are_reductions follows visits levels guard (Problem.of_tree Hdd input) is V = tree_is Hdd levels input is guard V
+    → SpellersAreRecursions (round_trials Perses) Perses → SpellersAreRecursions (round_trials Hdd) Hdd → ReducersAreReductions
+reducers_are_reductions follows visits levels spelled spelled_levels guard (Problem.of_lines start) is V = follows guard V start
+reducers_are_reductions follows visits levels spelled spelled_levels guard (Problem.of_tree Perses input) is V = tree_is Perses visits input is guard V
+reducers_are_reductions follows visits levels spelled spelled_levels guard (Problem.of_tree Hdd input) is V = tree_is Hdd levels input is guard V
+reducers_are_reductions follows visits levels spelled spelled_levels guard (Problem.of_respelling Perses input) is V =
+    speller_is Perses spelled input is guard V
+reducers_are_reductions follows visits levels spelled spelled_levels guard (Problem.of_respelling Hdd input) is V =
+    speller_is Hdd spelled_levels input is guard V
 
 -- a start that is admitted may be asked
 admits_lines : (guard : Admits) (start : List ℕ) → guard (numbers_of (numbered_lines start)) start ≡ true → is_listed guard (numbered_lines start) ≡ true
 admits_lines guard start kept = ap (guard (numbers_of (numbered_lines start))) (text-numbered_lines start) ∙ kept
 
-module _ (mode : TreeMode) (laws : IsTreeMode (round_trials mode) (IsEditBy mode)) (input : TreeInput) (is : IsInput input) (admitted : AdmitsStart input) where
+module _ (mode : TreeMode) (laws : IsTreeMode (round_trials mode) (IsEditBy mode)) (input : TreeInput) (is : IsInput input)
+    (admitted : AdmitsStart input) where
   abbrev tried : RoundMode TreeState
   tried = walk_mode (round_trials mode) input
 
@@ -87,7 +106,7 @@ module _ (mode : TreeMode) (laws : IsTreeMode (round_trials mode) (IsEditBy mode
         let has = subst (λ (r : Reduction TreeState). HasVerdicts V r.questions) (sym same) defined in
         let not_refused = ap (λ (r : Reduction TreeState). r.refused) same ∙ interesting in
         let by_trials =
-        ends_minimal tried (IsKept input) (λ state other. IsTriedAtNo (tried.round state) other) (laws.lawful input is)
+        ends_minimal tried (IsKept input) (λ state other. IsTriedAtNo (tried.round state) other) (λ state. tt) (laws.lawful input is)
         (λ state other kept at_no. at_no) begins.listed V not_refused has in
         let well =
         subst (λ (r : Reduction TreeState). EndsWell tried (IsKept input) (λ state other. IsTriedAtNo (tried.round state) other) V r.state) same by_trials in
@@ -104,14 +123,27 @@ module _ (mode : TreeMode) (laws : IsTreeMode (round_trials mode) (IsEditBy mode
               sym (ap (λ (a : Admits). a (leaves over.state.tree) text) guarded) ∙ ap (input.admits (leaves over.state.tree)) is_text ∙ end.listed.admitted;
           candidate = candidate;
           minimal = end.minimal;
+          respells = tt;
         }
 
-pub reducers_ask_candidates : lines.AsksCandidates → IsTreeMode (round_trials Perses) (IsEditBy Perses) → IsTreeMode (round_trials Hdd) (IsEditBy Hdd)
+-- the same of trees and respellings
+module _ (mode : TreeMode) (laws : IsSpellMode (round_trials mode) (IsEditBy mode)) (input : TreeInput) (is : IsInput input)
+    (admitted : AdmitsStart input) where
+  speller_asks : (text : List ℕ) → MayAsk (plan_first (spell_mode (round_trials mode) input)) text → IsSpellCandidate input text
+  speller_asks text may =
+      (laws.asks input text is
+      (asks_candidates (spell_mode (round_trials mode) input) (IsKeptInPhase input) (laws.lawful input is).keeps (laws.begins input is admitted).1 text may)).0
+
+pub reducers_ask_candidates : lines.AsksCandidates → IsSpellMode (round_trials Perses) (IsEditBy Perses) → IsSpellMode (round_trials Hdd) (IsEditBy Hdd)
     → ReducersAskCandidates
 reducers_ask_candidates asks visits levels guard (Problem.of_lines start) is admitted text may =
     asks guard start text (admits_lines guard start admitted) may
-reducers_ask_candidates asks visits levels guard (Problem.of_tree Perses input) is admitted text may = tree_asks Perses visits input is admitted text may
-reducers_ask_candidates asks visits levels guard (Problem.of_tree Hdd input) is admitted text may = tree_asks Hdd levels input is admitted text may
+reducers_ask_candidates asks visits levels guard (Problem.of_tree Perses input) is admitted text may =
+    tree_asks Perses visits.tree_mode input is admitted text may
+reducers_ask_candidates asks visits levels guard (Problem.of_tree Hdd input) is admitted text may = tree_asks Hdd levels.tree_mode input is admitted text may
+reducers_ask_candidates asks visits levels guard (Problem.of_respelling Perses input) is admitted text may =
+    speller_asks Perses visits input is admitted text may
+reducers_ask_candidates asks visits levels guard (Problem.of_respelling Hdd input) is admitted text may = speller_asks Hdd levels input is admitted text may
 
 -- what isn't true is false
 not_true : (b : Bool) → ¬ (b ≡ true) → b ≡ false
@@ -138,16 +170,29 @@ line_reduces minimal guard V start text kept defined interesting is_text =
       admitted = ap (guard (numbers_of over.state)) is_text ∙ well.listed;
       candidate = record { lines = over.state; some = well.kept; listed = well.listed; joined = is_text };
       minimal = well.minimal;
+      respells = tt;
     }
 
-pub confirmed_are_reductions : lines.LinesEndMinimal → IsTreeMode (round_trials Perses) (IsEditBy Perses) → IsTreeMode (round_trials Hdd) (IsEditBy Hdd)
-    → WalksAreRecursions Perses (round_trials Perses) → WalksAreRecursions Hdd (round_trials Hdd) → ConfirmedAreReductions
-confirmed_are_reductions minimal visits levels by_visits by_levels guard (Problem.of_lines start) output head history torn is guarded kept it =
+pub confirmed_are_reductions : lines.LinesEndMinimal → IsSpellMode (round_trials Perses) (IsEditBy Perses) → IsSpellMode (round_trials Hdd) (IsEditBy Hdd)
+    → WalksAreRecursions Perses (round_trials Perses) → WalksAreRecursions Hdd (round_trials Hdd) → SpellersAreRecursions (round_trials Perses) Perses
+    → SpellersAreRecursions (round_trials Hdd) Hdd → ConfirmedAreReductions
+confirmed_are_reductions minimal visits levels by_visits by_levels spelled spelled_levels guard (Problem.of_lines start) output head history torn is guarded
+    kept it =
     line_reduces minimal guard (verdict_in (records_of history)) start output kept it.1
     (not_true (refuses guard (Problem.of_lines start) (verdict_in (records_of history))) it.2) it.3
-confirmed_are_reductions minimal visits levels by_visits by_levels guard (Problem.of_tree Perses input) output head history torn is guarded kept it =
-    tree_reduces Perses visits input is kept by_visits guard guarded (verdict_in (records_of history)) output it.1
+confirmed_are_reductions minimal visits levels by_visits by_levels spelled spelled_levels guard (Problem.of_tree Perses input) output head history torn is
+    guarded kept it =
+    tree_reduces Perses visits.tree_mode input is kept by_visits guard guarded (verdict_in (records_of history)) output it.1
     (not_true (refuses guard (Problem.of_tree Perses input) (verdict_in (records_of history))) it.2) it.3
-confirmed_are_reductions minimal visits levels by_visits by_levels guard (Problem.of_tree Hdd input) output head history torn is guarded kept it =
-    tree_reduces Hdd levels input is kept by_levels guard guarded (verdict_in (records_of history)) output it.1
+confirmed_are_reductions minimal visits levels by_visits by_levels spelled spelled_levels guard (Problem.of_tree Hdd input) output head history torn is
+    guarded kept it =
+    tree_reduces Hdd levels.tree_mode input is kept by_levels guard guarded (verdict_in (records_of history)) output it.1
     (not_true (refuses guard (Problem.of_tree Hdd input) (verdict_in (records_of history))) it.2) it.3
+confirmed_are_reductions minimal visits levels by_visits by_levels spelled spelled_levels guard (Problem.of_respelling Perses input) output head history torn is
+    guarded kept it =
+    spelled_reduction Perses visits by_visits spelled input is kept (verdict_in (records_of history)) it.1
+    (not_true (refuses guard (Problem.of_respelling Perses input) (verdict_in (records_of history))) it.2) guard guarded output it.3
+confirmed_are_reductions minimal visits levels by_visits by_levels spelled spelled_levels guard (Problem.of_respelling Hdd input) output head history torn is
+    guarded kept it =
+    spelled_reduction Hdd levels by_levels spelled_levels input is kept (verdict_in (records_of history)) it.1
+    (not_true (refuses guard (Problem.of_respelling Hdd input) (verdict_in (records_of history))) it.2) guard guarded output it.3

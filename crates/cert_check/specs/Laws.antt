@@ -48,11 +48,13 @@ FinishedRunsAreConfirmed =
 abbrev pub IsGuardedBy : Admits → Problem → Type 0
 IsGuardedBy guard (Problem.of_lines start) = Unit {0}
 IsGuardedBy guard (Problem.of_tree mode input) = input.admits ≡ guard
+IsGuardedBy guard (Problem.of_respelling mode input) = input.admits ≡ guard
 
 -- The start is admitted with all of its lines or tokens.
 abbrev pub IsStartAdmitted : Admits → Problem → Type 0
 IsStartAdmitted guard (Problem.of_lines start) = guard (numbers_of (numbered_lines start)) start ≡ true
 IsStartAdmitted guard (Problem.of_tree mode input) = AdmitsStart input
+IsStartAdmitted guard (Problem.of_respelling mode input) = AdmitsStart input
 
 -- Files that are confirmed hold a reduction over the verdicts of the records, and so a minimal one.
 abbrev pub ConfirmedAreReductions : Type 0

@@ -9,7 +9,8 @@ use reduce_hdd::TreeLevels;
 use reduce_perses::TreeVisits;
 use reduce_trees::{hdd_is_its_recursion, perses_is_its_recursion};
 use reduce_trees_mode::whole_is_start;
-use run_problem::{histories_go_by_questions, walk_laws};
+use run_problem::{histories_go_by_questions, spell_laws};
+use spell_shrink::{hdd_speller_is_its_recursion, perses_speller_is_its_recursion};
 
 /// One thing is found of files: they are confirmed, or one cause is the first.
 pub fn one_is_found()
@@ -37,6 +38,8 @@ pub fn reducers_are_reductions()
     follows_lines();
     perses_is_its_recursion();
     hdd_is_its_recursion();
+    perses_speller_is_its_recursion();
+    hdd_speller_is_its_recursion();
 }
 
 /// What the reducer of a problem may ask is a candidate, where its start is admitted.
@@ -44,8 +47,8 @@ pub fn reducers_ask_candidates()
     ensures { ReducersAskCandidates }
 {
     asks_candidates();
-    walk_laws::<TreeVisits>();
-    walk_laws::<TreeLevels>();
+    spell_laws::<TreeVisits>();
+    spell_laws::<TreeLevels>();
 }
 
 /// Files that are confirmed hold a reduction over the verdicts of the records, and so a minimal one.
@@ -55,6 +58,8 @@ pub fn confirmed_are_reductions()
     lines_end_minimal();
     perses_is_its_recursion();
     hdd_is_its_recursion();
-    walk_laws::<TreeVisits>();
-    walk_laws::<TreeLevels>();
+    perses_speller_is_its_recursion();
+    hdd_speller_is_its_recursion();
+    spell_laws::<TreeVisits>();
+    spell_laws::<TreeLevels>();
 }

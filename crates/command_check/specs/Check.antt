@@ -28,7 +28,7 @@ use Rattle.command_words.specs.Commands.{CheckOptions, GrammarOptions, ModeOptio
 
 -- what its command line says of the problem: what has each keep text is admitted
 abbrev pub checked_problem : CheckOptions → ProblemOptions
-checked_problem options = record { mode = options.mode; input = options.input; admitted = λ input. keeps_admit options.keeps }
+checked_problem options = record { mode = options.mode; respell = false; input = options.input; admitted = λ input. keeps_admit options.keeps }
 
 -- a problem was read in whose start each keep text occurs, and the fact holds of it
 abbrev pub ProblemHeld : CheckOptions → SeenFiles → (Problem → Type 0) → Type 0

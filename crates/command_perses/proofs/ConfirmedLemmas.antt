@@ -14,6 +14,7 @@ use Rattle.line_guard.specs.declared.wish.Wish.{Wish}
 use Rattle.run_gated.specs.Records.{FirstIs}
 use Rattle.run_problem.specs.Committed.{IsPrefix, committed_texts, questions_over}
 use Rattle.run_problem.specs.Problem.{IsCandidateOf, IsProblem, Problem, reduced_text, start_text}
+use Rattle.run_problem.proofs.Lent.{tree_is}
 use Rattle.cert_check.specs.Laws.{FinishedRunsAreConfirmed}
 use Rattle.command_words.specs.Commands.{ModeOptions, ReduceOptions}
 use Rattle.command_ends.specs.World.{NotReached, SeenFiles}
@@ -31,6 +32,8 @@ module _ (law : NothingIsProtected) (options : ReduceOptions) (none : NamesNoLin
   no_numbers (Problem.of_lines start) = ap (λ (wishes : List Wish). protected_lines wishes start) no_wishes ∙ law.lines start
   no_numbers (Problem.of_tree mode input) =
       ap (λ (wishes : List Wish). protected_tokens wishes input.start input.tokens) no_wishes ∙ law.tokens input.start input.tokens
+  no_numbers (Problem.of_respelling mode input) =
+      ap (λ (wishes : List Wish). protected_tokens wishes input.start input.tokens) no_wishes ∙ law.tokens input.start input.tokens
 
   -- the keep texts alone say what is admitted
   keeps_alone : (problem : Problem) → admits_of options problem ≡ keeps_admit options.keeps
@@ -41,7 +44,8 @@ module _ (law : NothingIsProtected) (options : ReduceOptions) (none : NamesNoLin
 is_problem_in : (options : ReduceOptions) (files : SeenFiles) (problem : Problem) (mode : ModeOptions)
     → ReadIn mode (problem_in options) files (λ one. one ≡ problem) → IsProblem problem
 is_problem_in options files problem ModeOptions.lines read = subst IsProblem read.holds tt
-is_problem_in options files problem (ModeOptions.by_grammar trees) read = subst IsProblem read.2.holds.2 read.2.holds.1.of_text.is_input
+is_problem_in options files problem (ModeOptions.by_grammar trees) read =
+    subst IsProblem read.2.holds.2 (tree_is options.respell trees.mode read.2.holds.0 read.2.holds.1.of_text.is_input)
 
 -- a history with a first record has an event
 some_event : (start : List ℕ) (history : History) → FirstIs start Yes (records_of history) → history ≢ []

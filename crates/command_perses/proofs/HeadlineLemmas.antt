@@ -19,7 +19,7 @@ use Rattle.run_gated.specs.declared.known.Known.{Known}
 use Rattle.run_problem.specs.Committed.{questions_over}
 use Rattle.run_problem.specs.Ends.{AreOf, ReducesFrom}
 use Rattle.run_problem.specs.Laws.{AnswersAreBounded}
-use Rattle.run_problem.specs.Problem.{IsCandidateOf, Problem, start_text}
+use Rattle.run_problem.specs.Problem.{IsCandidateOf, Problem, start_text, tree_problem}
 use Rattle.run_problem.proofs.Lent.{none_of}
 use Rattle.command_words.specs.Commands.{Command, ModeOptions, ReduceOptions}
 use Rattle.command_grammar.proofs.Lent.{one_grammar}
@@ -57,7 +57,7 @@ module _ (options : ReduceOptions) (files : SeenFiles) where
   known_in ModeOptions.lines P read =
       (Problem.of_lines read.bytes, record { bytes = read.bytes; read = read.read; within = read.within; holds = refl }, read.holds)
   known_in (ModeOptions.by_grammar trees) P read = (
-    Problem.of_tree trees.mode read.2.holds.0,
+    tree_problem options.respell trees.mode read.2.holds.0,
     (read.0, read.1, record { bytes = read.2.bytes; read = read.2.read; within = read.2.within; holds = (read.2.holds.0, read.2.holds.1, refl) }),
     read.2.holds.2,
   )
@@ -73,7 +73,7 @@ module _ (options : ReduceOptions) (files : SeenFiles) where
       let of_text : IsInputOf read'.0 read.2.bytes input = subst (λ (text : List ℕ). IsInputOf read'.0 text input) same_text read'.2.holds.1.of_text in
       let of_both : IsInputOf read.0 read.2.bytes input = subst (λ (c : CheckedGrammar). IsInputOf c read.2.bytes input) (sym same_grammar) of_text in
       let same_input = read.2.holds.1.only input of_both read'.2.holds.1.admits read'.2.holds.1.squeezes in
-      sym read'.2.holds.2 ∙ ap (Problem.of_tree trees.mode) (sym same_input) ∙ read.2.holds.2
+      sym read'.2.holds.2 ∙ ap (tree_problem options.respell trees.mode) (sym same_input) ∙ read.2.holds.2
 
   the_problem : (P : Problem → Type 0) → ProblemAccepted options files P → (problem : Problem) × IsProblemOf options files problem × P problem
   the_problem P accepted =
@@ -234,6 +234,7 @@ module _ (one_history : BytesHaveOneHistory) (bounded : AnswersAreBounded) (may_
         subst (λ (text : List ℕ). holds_all options.keeps text ≡ true) it.is_text (and_parts _ _ it.admitted).0;
     protected = λ has. (and_parts _ _ (result has).reduces.reduced.admitted).1;
     minimal = λ has. (result has).reduces.reduced.minimal;
+    respells = λ has. (result has).reduces.reduced.respells;
     report = λ is.
         let it = result (subst HasResult (sym is) refl) in
         subst (λ (counts : Counts). Puts (report_text counts) old.out new.out) it.reduces.is_counts (it.report is);

@@ -15,7 +15,7 @@ pub record NamesNoLines (protects : ProtectOptions) : Type 0 where
   pub only : protects.only ≡ None
 
 -- Where a run came to its result, and no lines are named that must stay, the result, the start's digest and the history, which the
--- journal has, are confirmed of its problem.
+-- journal has, are confirmed of its problem. `check` doesn't take `--respell`: it reads the problem of such a run without it.
 abbrev pub ResultsAreConfirmed : (List ℕ → Verdict → Type 0) → Type 0
 ResultsAreConfirmed may_say =
     (options : ReduceOptions) (old new : World) (status : ℕ) → NamesNoLines options.protects

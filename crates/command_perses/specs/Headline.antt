@@ -18,7 +18,7 @@ use Rattle.run_gated.specs.Records.{BeginsAt, FirstIs, FirstIsNo, OnlyNo}
 use Rattle.run_problem.specs.Committed.{IsPrefix, committed_texts, questions_over, thread_over}
 use Rattle.run_problem.specs.Laws.{answer_count}
 use Rattle.line_guard.specs.MustStay.{keeps_numbers}
-use Rattle.run_problem.specs.Problem.{EndsMinimally, IsCandidateOf, Problem, counts_of, reduced_numbers, reduced_text, start_text}
+use Rattle.run_problem.specs.Problem.{EndsMinimally, IsCandidateOf, IsRespelled, Problem, counts_of, reduced_numbers, reduced_text, start_text}
 use Rattle.command_words.specs.Commands.{ModeOptions, ReduceOptions}
 use Rattle.command_grammar.specs.Texts.{GrammarIsVisible}
 use Rattle.command_ends.specs.Status.{IsOneOf}
@@ -95,8 +95,10 @@ pub record Headline (may_say : List ℕ → Verdict → Type 0) (options : Reduc
   pub keeps : HasResult status → holds_all options.keeps (result_text options problem history) ≡ true
   -- and it keeps the lines or tokens that must stay
   pub protected : HasResult status → keeps_numbers (result_numbers options problem history) (numbers_stay options problem) ≡ true
-  -- no single edit of it has a yes: each that may be asked has its recorded no
+  -- no single edit of it has a yes: each that may be asked has its recorded no. Of a respelling the edits are its shorter neighbours
   pub minimal : HasResult status → EndsMinimally (admits_of options problem) problem (verdicts_of history)
+  -- a respelling follows the reduction of the tree, whose own end is minimal by the edits of trees
+  pub respells : HasResult status → IsRespelled (admits_of options problem) (verdicts_of history) problem
   -- ---- the verdicts
   -- a record is kept exactly where its text has a kept verdict, and then it has that one
   pub resumed : AllGoWith (verdict_in kept) history
@@ -109,7 +111,7 @@ pub record Headline (may_say : List ℕ → Verdict → Type 0) (options : Reduc
   pub asked : GatesWereUsed options (texts_of (asked_records_of history)) (logs_of old.gates) (logs_of new.gates) old.journal new.journal
   pub other_gates : drop options.jobs new.gates ≡ drop options.jobs old.gates
   -- each text is of some of the start's lines or tokens, those that must stay among them, in the language of the grammar as it is written, and has each
-  -- keep text
+  -- keep text. With `--respell` tokens may have other spellings that their kinds have in the start
   pub candidates : All (λ r. IsCandidateOf (admits_of options problem) problem r.text) (records_of history)
   -- none is longer than the start
   pub short : All (λ r. length r.text ≤ length (start_text problem)) (records_of history)

@@ -12,7 +12,7 @@ use Rattle.reduce_trees_input.specs.Laws.{InputsAreOne}
 use Rattle.reduce_trees_input.specs.Parsed.{IsInputOf, IsParsed, MakesInputOf, tree_input}
 use Rattle.reduce_trees_input.specs.declared.fault.InputFault.{InputFault}
 use Rattle.reduce_trees_input.specs.declared.parsed.ParsedInput.{ParsedInput}
-use Rattle.run_problem.specs.Problem.{Problem}
+use Rattle.run_problem.specs.Problem.{tree_problem}
 use Rattle.command_ends.specs.declared.status.NamedFile.TheVariants as named
 use Rattle.command_ends.specs.declared.status.Refusal.{Refusal}
 use Rattle.command_ends.specs.declared.status.Refusal.TheVariants.{Memory, CannotRead, Grammar, NoParse, TooLong, Uncut}
@@ -102,13 +102,13 @@ module _ (options : ProblemOptions) (files : SeenFiles) (trees : GrammarOptions)
       → options.admitted (tree_input tree.found formed admits trees.squeeze) ≡ admits)
       → ProblemRead options files
       (λ problem. (formed : IsWellFormed tree.found.lexer.grammar tree.found.lexer.start)
-      × (problem ≡ Problem.of_tree trees.mode (tree_input tree.found formed admits trees.squeeze)))
+      × (problem ≡ tree_problem options.respell trees.mode (tree_input tree.found formed admits trees.squeeze)))
   tree_read one blind tree gives admits fits =
       let formed = gives.ready.checked.well_formed in
       let input : TreeInput = tree_input tree.found formed admits trees.squeeze in
       let of_text = gives.read.holds formed admits trees.squeeze in
       subst (λ (m : ModeOptions). ReadIn m options files (λ problem. (formed : IsWellFormed tree.found.lexer.grammar tree.found.lexer.start)
-      × (problem ≡ Problem.of_tree trees.mode (tree_input tree.found formed admits trees.squeeze)))) (sym mode) (
+      × (problem ≡ tree_problem options.respell trees.mode (tree_input tree.found formed admits trees.squeeze)))) (sym mode) (
         tree.checked,
         gives.spelled,
         record {

@@ -9,7 +9,8 @@ use Rattle.reduce_trees_input.specs.Faults.{IsInputFault}
 use Rattle.reduce_trees_input.specs.Laws.{InputFaultOnce, InputsAreInLanguage}
 use Rattle.reduce_trees_input.specs.declared.fault.InputFault.{InputFault}
 use Rattle.reduce_trees_input.specs.declared.fault.InputFault.TheVariants as input_fault
-use Rattle.run_problem.specs.Problem.{Problem, start_text}
+use Rattle.run_problem.specs.Problem.{Problem, start_text, tree_problem}
+use Rattle.run_problem.proofs.Lent.{tree_start}
 use Rattle.command_ends.specs.declared.status.NamedFile.{NamedFile}
 use Rattle.command_ends.specs.declared.status.NamedFile.TheVariants as named
 use Rattle.command_ends.specs.Status.{IsUncut}
@@ -53,7 +54,7 @@ module _ (options : ProblemOptions) (files : SeenFiles) where
 
   any_in : (mode : ModeOptions) (P : Problem → Type 0) → ReadIn mode options files P → (problem : Problem) × P problem
   any_in ModeOptions.lines P read = (Problem.of_lines read.bytes, read.holds)
-  any_in (ModeOptions.by_grammar trees) P read = (Problem.of_tree trees.mode read.2.holds.0, read.2.holds.2)
+  any_in (ModeOptions.by_grammar trees) P read = (tree_problem options.respell trees.mode read.2.holds.0, read.2.holds.2)
 
   -- where there is a problem with a fact, some problem has it
   pub any_problem : (P : Problem → Type 0) → ProblemRead options files P → (problem : Problem) × P problem
@@ -76,8 +77,11 @@ module _ (options : ProblemOptions) (files : SeenFiles) where
       let visible : IsShownWithin input_limit content (λ text. InLanguage read.0 text × S text) =
       of_grammar trees.grammar files read.0 read.1 (λ c. IsShownWithin input_limit content (λ text. InLanguage c text × S text)) shown in
       let it : InLanguage read.0 read.2.bytes × S read.2.bytes =
-      shown_holds input_limit (λ text. InLanguage read.0 text × S text) content visible read.2.bytes read.2.read in
-      (Problem.of_tree trees.mode read.2.holds.0, read.2.holds.2, subst S (sym read.2.holds.1.of_text.same_text) it.1)
+      shown_holds input_limit (λ text. InLanguage read.0 text × S text) content visible read.2.bytes read.2.read in (
+        tree_problem options.respell trees.mode read.2.holds.0,
+        read.2.holds.2,
+        subst S (sym (tree_start options.respell trees.mode read.2.holds.0 ∙ read.2.holds.1.of_text.same_text)) it.1,
+      )
 
   -- what is visible of a problem holds of the one that was read
   pub read_and_shown : (P : Problem → Type 0) (S : List ℕ → Type 0) → ProblemRead options files P → ShownIn options.mode options files S → (problem : Problem)
@@ -112,7 +116,7 @@ module _ (options : ProblemOptions) (files : SeenFiles) where
         let content = files.shown options.input in
         let c : CheckedGrammar = grammar_read.0 in
         let input : WasRead input_limit content (λ text. (input : TreeInput) × IsTreeProblem options c trees.squeeze text input
-        × P (Problem.of_tree trees.mode input)) = grammar_read.2 in
+        × P (tree_problem options.respell trees.mode input)) = grammar_read.2 in
         let visible : IsShownWithin input_limit content (λ text. (fault : InputFault) × IsInputFault c text fault × Q fault) =
         of_grammar trees.grammar files c grammar_read.1
         (λ c. IsShownWithin input_limit content (λ text. (fault : InputFault) × IsInputFault c text fault × Q fault)) shown in

@@ -7,7 +7,7 @@ use Rattle.reduce_trees_mode.specs.Input.{TreeInput}
 use Rattle.reduce_trees_input.specs.Parsed.{IsInputOf}
 use Rattle.reduce_trees_input.specs.Faults.{IsInputFault}
 use Rattle.reduce_trees_input.specs.declared.fault.InputFault.{InputFault}
-use Rattle.run_problem.specs.Problem.{Problem}
+use Rattle.run_problem.specs.Problem.{Problem, tree_problem}
 use Rattle.command_ends.specs.declared.status.NamedFile.{NamedFile}
 use Rattle.command_ends.specs.declared.status.NamedFile.TheVariants as named
 use Rattle.command_ends.specs.World.{IsShownWithin, SeenFiles, WasRead, grammar_limit, input_limit, journal_limit, result_limit}
@@ -15,9 +15,11 @@ use Rattle.command_words.specs.Commands.{GrammarSource, ModeOptions}
 use Rattle.command_grammar.specs.Grammar.{GrammarRead, IsGrammarText, start_name}
 use Rattle.command_grammar.specs.Texts.{AreSpelled, GrammarIsShown, IsGrammarFile, path_of}
 
--- what a command line says of a problem: which states are tried, the path of the input, and what is admitted of its tree
+-- what a command line says of a problem: which states are tried, whether what is left of a tree is respelled, the path of the input, and what is admitted
+-- of its tree
 pub record ProblemOptions : Type 0 where
   pub mode : ModeOptions
+  pub respell : Bool
   pub input : List ℕ
   pub admitted : TreeInput → Admits
 
@@ -35,7 +37,7 @@ ReadIn ModeOptions.lines options files P = WasRead input_limit (files.shown opti
 ReadIn (ModeOptions.by_grammar trees) options files P =
     (c : CheckedGrammar) × GrammarRead trees.grammar files c
     × WasRead input_limit (files.shown options.input)
-    (λ text. (input : TreeInput) × IsTreeProblem options c trees.squeeze text input × P (Problem.of_tree trees.mode input))
+    (λ text. (input : TreeInput) × IsTreeProblem options c trees.squeeze text input × P (tree_problem options.respell trees.mode input))
 
 abbrev pub ProblemRead : ProblemOptions → SeenFiles → (Problem → Type 0) → Type 0
 ProblemRead options files P = ReadIn options.mode options files P

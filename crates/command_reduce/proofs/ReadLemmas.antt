@@ -37,10 +37,11 @@ few-tokens in_order found ready =
 pub tree_read : (options : ReduceOptions) (files : SeenFiles) (trees : GrammarOptions) → options.mode ≡ ModeOptions.by_grammar trees → InputsAreOne
     → (tree : ReadTree) → GivesTree trees.grammar options.input files tree
     → ProblemRead (problem_in options) files
-    (IsReadAs (admits_read options (read.Tree tree.found trees.mode trees.squeeze)) (read.Tree tree.found trees.mode trees.squeeze))
+    (IsReadAs (admits_read options (read.Tree tree.found trees.mode trees.squeeze options.respell))
+    (read.Tree tree.found trees.mode trees.squeeze options.respell))
 tree_read options files trees mode one tree gives =
     problem_tree (problem_in options) files trees mode one (λ input admits. refl) tree gives
-    (admits_read options (read.Tree tree.found trees.mode trees.squeeze)) (λ formed. refl)
+    (admits_read options (read.Tree tree.found trees.mode trees.squeeze options.respell)) (λ formed. refl)
 
 -- why the text of what was read isn't accepted is why the problem isn't
 pub stays_refused : (options : ReduceOptions) (files : SeenFiles) (guard : Admits) (problem : ReadProblem) (refusal : Refusal)
@@ -65,5 +66,5 @@ stays_refused options files guard problem _ was why = absurd why
 pub start_stays : AllKeepProtected → (options : ReduceOptions) (problem : ReadProblem) → holds_all options.keeps (start_read problem) ≡ true
     → admits_read options problem (numbers_read problem) (start_read problem) ≡ true
 start_stays all options (read.Lines start) kept = and_from _ _ kept (all.lines (wishes_of options.protects) start.items)
-start_stays all options (read.Tree found mode squeeze) kept =
+start_stays all options (read.Tree found mode squeeze respell) kept =
     and_from _ _ kept (all.tokens (wishes_of options.protects) (string_bytes found.text) (tokens_in found.tokens))

@@ -48,7 +48,7 @@ tree_admits options input = stays_admit (tokens_stay options input.start input.t
 
 -- what its command line says of the problem
 abbrev pub problem_in : ReduceOptions → ProblemOptions
-problem_in options = record { mode = options.mode; input = options.input; admitted = tree_admits options }
+problem_in options = record { mode = options.mode; respell = options.respell; input = options.input; admitted = tree_admits options }
 
 -- a problem was read in whose start each keep text occurs, and each line that is named is there, and the fact holds of it
 abbrev pub ProblemAccepted : ReduceOptions → SeenFiles → (Problem → Type 0) → Type 0
@@ -58,6 +58,7 @@ ProblemAccepted options files P = ProblemRead (problem_in options) files (λ pro
 abbrev pub numbers_stay : ReduceOptions → Problem → List ℕ
 numbers_stay options (Problem.of_lines start) = protected_lines (wishes_of options.protects) start
 numbers_stay options (Problem.of_tree mode input) = protected_tokens (wishes_of options.protects) input.start input.tokens
+numbers_stay options (Problem.of_respelling mode input) = protected_tokens (wishes_of options.protects) input.start input.tokens
 
 -- what must stay of a problem
 abbrev pub stays_of : ReduceOptions → Problem → Stays

@@ -21,13 +21,14 @@ use run_problem::ReadProblem;
 use std::alloc::Global;
 
 /// What was found, to be reduced as the command line says.
-fn tree_problem(found: ParsedInput, mode: TreeMode, squeeze: bool) -> ReadProblem
-    ensures { result ≡ Tree found mode squeeze }
+fn tree_problem(found: ParsedInput, mode: TreeMode, squeeze: bool, respell: bool) -> ReadProblem
+    ensures { result ≡ Tree found mode squeeze respell }
 {
     ReadProblem::Tree {
         found,
         mode,
         squeeze,
+        respell,
     }
 }
 
@@ -53,7 +54,7 @@ pub fn read_problem<F: Files>(
         ModeLine::ByGrammar(trees) => {
             inputs_are_one();
             let tree = read_tree(alloc, trees.grammar, line.input, files)?;
-            Ok(tree_problem(tree.found, trees.mode, trees.squeeze))
+            Ok(tree_problem(tree.found, trees.mode, trees.squeeze, line.respell))
         }
     }
 }

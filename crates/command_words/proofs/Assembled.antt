@@ -3,17 +3,18 @@ use Rattle.std.proofs.Common.{◌≡◌, ◌∙◌, ℕ, ◌-◌, ◌<◌, ◌�
 use Rattle.std.proofs.Common.{None, MatchOption, refl, sym, ap, ap₂, bytes_eq, codes, is_some, slice_get, option_and_then, option_map}
 use Rattle.std.proofs.Common.{unwrap_or, if◌then◌else◌, String, arith, drop, get_or, string_bytes, take}
 use Rattle.std.proofs.lemmas.List.{take_all}
+use Rattle.std.proofs.lemmas.Option.{same_Some}
 use Rattle.std.specs.List.{list_all}
 use Rattle.std.specs.Str.Parse.{digits_value}
 use Rattle.clap.specs.declared.parser.matches.ArgMatches.{ArgMatches}
 use Rattle.command_words.specs.Options.{OptionRow, Use, Values, fits_table, is_number_in, options_in, span_of, takes_value, uses_from, values_for, where_fits}
 use Rattle.command_words.specs.Tables.{any_lines, check_table, normal_table, reduce_table, selftest_table, tree_modes}
 use Rattle.command_words.specs.Commands.{CheckOptions, Command, GrammarSource, ModeOptions, ProtectOptions, ReduceOptions, SelftestOptions}
-use Rattle.command_words.specs.Commands.{check_in, check_line, check_of, command_line_of, command_of, is_given}
+use Rattle.command_words.specs.Commands.{check_in, check_line, check_of, command_line_of, command_of, fitting_respell, is_given}
 use Rattle.command_words.specs.Commands.{mode_options, named_grammar, normal_line, number_of, reduce_line, reduce_of, reduction_in, selftest_line}
 use Rattle.command_words.specs.Commands.{selftest_of, text_of, tree_mode_named, tree_mode_of, value_of, value_or}
 use Rattle.command_words.specs.inner.Found.{HasFound, HasModeOptions, check_of_parts, check_with, fitting_jobs, fitting_keeps, fitting_mode, fitting_number}
-use Rattle.command_words.specs.inner.Found.{fitting_protects, line_of_parts, line_with, names_files, protects_of_parts, values_fit}
+use Rattle.command_words.specs.inner.Found.{fitting_protects, line_if, line_of_parts, line_with, names_files, protects_of_parts, values_fit}
 use Rattle.command_words.specs.inner.Read.{IsAnswered, IsOnce, IsTable}
 use Rattle.reduce_step.specs.declared.mode.TreeMode.{TreeMode}
 use Rattle.command_words.proofs.Fits.{check_fits, fits_once, flags_once, normal_fits, reduce_fits, selftest_fits}
@@ -43,7 +44,8 @@ found_in_words table words matches read = record { once = read.once; has = read.
 -- ---- the tables
 
 pub reduce_is_table : IsTable reduce_table
-reduce_is_table = ((refl, (refl, (refl, (refl, (refl, (refl, (refl, (refl, (refl, (refl, (refl, (refl, (refl, (refl, (refl, (refl, tt)))))))))))))))), refl)
+reduce_is_table =
+    ((refl, (refl, (refl, (refl, (refl, (refl, (refl, (refl, (refl, (refl, (refl, (refl, (refl, (refl, (refl, (refl, (refl, tt))))))))))))))))), refl)
 
 pub normal_is_table : IsTable normal_table
 normal_is_table = ((refl, (refl, (refl, tt))), refl)
@@ -101,78 +103,115 @@ by_parts uses true true true true true true false only (Some mode) = refl
 by_parts uses true true true true true true true false (Some mode) = refl
 by_parts uses true true true true true true true true (Some mode) = refl
 
+-- where `--respell` goes with the other options, and where it doesn't
+where_respell_fits : (uses : List Use) (respell : Option Bool) (mode : Option ModeOptions) (files all : Bool) (line : Option ReduceOptions)
+    → (if files then line else nothing) ≡ (if all then option_map (reduction_in uses) mode else nothing)
+    → (if files then line_if respell line else nothing) ≡ (if all then option_and_then (λ (r : Bool). option_map (reduction_in uses) mode) respell else nothing)
+where_respell_fits uses None mode files all line same = sym (either_nothing files) ∙ either_nothing all
+where_respell_fits uses (Some respell) mode files all line same = same
+
 where_true : {A : Type 0} (f : List Use → Option A) (uses : List Use) (b : Bool)
     → (if b then f uses else None) ≡ option_and_then f (if b then Some uses else None)
 where_true f uses true = refl
 where_true f uses false = refl
 
+-- the line of what is found, whether `--respell` goes with it or not
+abbrev line_by : List Use → Option Bool → Option ModeOptions → Option ℕ → Option (List (List ℕ)) → Option ProtectOptions → Option ReduceOptions
+line_by uses respell mode jobs keeps protects = line_if respell (line_of_parts uses mode jobs keeps protects)
+
 pub reduce_found : (uses : List Use) → IsOnce reduce_table uses
     → line_with uses (fitting_keeps uses) (fitting_protects uses) ≡ option_and_then reduce_of (where_fits reduce_table (Some uses))
 reduce_found uses once =
-    by_parts uses (names_files (codes "script") uses) (values_fit (Values.one_of (codes "lines" ∷ tree_modes)) (codes "mode") uses)
-    (values_fit (Values.number 1 16) (codes "jobs") uses) (nat_le (length (values_for (codes "keep") uses)) 8)
-    (nat_le (length (values_for (codes "protect") uses)) 8) (values_fit any_lines (codes "protect") uses)
-    (nat_le (length (values_for (codes "protect-text") uses)) 8) (values_fit any_lines (codes "only") uses) (mode_options uses)
+    let files : Bool = names_files (codes "script") uses in
+    let mode : Bool = values_fit (Values.one_of (codes "lines" ∷ tree_modes)) (codes "mode") uses in
+    let jobs : Bool = values_fit (Values.number 1 16) (codes "jobs") uses in
+    let keeps : Bool = nat_le (length (values_for (codes "keep") uses)) 8 in
+    let few : Bool = nat_le (length (values_for (codes "protect") uses)) 8 in
+    let spans : Bool = values_fit any_lines (codes "protect") uses in
+    let texts : Bool = nat_le (length (values_for (codes "protect-text") uses)) 8 in
+    let only : Bool = values_fit any_lines (codes "only") uses in
+    where_respell_fits uses (fitting_respell uses) (mode_options uses) files (files && (mode && (jobs && (keeps && ((few && spans) && (texts && only))))))
+    (line_of_parts uses (fitting_mode uses) (fitting_jobs uses) (fitting_keeps uses) (fitting_protects uses))
+    (by_parts uses files mode jobs keeps few spans texts only (mode_options uses))
     ∙ sym (ap (λ (b : Bool). if b then reduce_of uses else None) (reduce_fits uses once))
     ∙ where_true reduce_of uses (fits_table reduce_table uses)
 
+-- without a part there is no line
+no_part : (files : Bool) (respell : Option Bool) (line : Option ReduceOptions) → None ≡ line → None ≡ (if files then line_if respell line else nothing)
+no_part false respell line none = refl
+no_part true None line none = refl
+no_part true (Some r) line none = none
+
 -- without keep texts there is no line
 pub no_line : (uses : List Use) (protects : Option ProtectOptions) → None ≡ line_with uses None protects
-no_line uses protects = go (names_files (codes "script") uses) (fitting_mode uses) (fitting_jobs uses)
+no_line uses protects = no_part (names_files (codes "script") uses) (fitting_respell uses) _ (go (fitting_mode uses) (fitting_jobs uses))
   where
-    go : (files : Bool) (mode : Option ModeOptions) (jobs : Option ℕ) → None ≡ (if files then line_of_parts uses mode jobs None protects else None)
-    go false mode jobs = refl
-    go true None jobs = refl
-    go true (Some mode) None = refl
-    go true (Some mode) (Some jobs) = refl
+    go : (mode : Option ModeOptions) (jobs : Option ℕ) → None ≡ line_of_parts uses mode jobs None protects
+    go None jobs = refl
+    go (Some mode) None = refl
+    go (Some mode) (Some jobs) = refl
 
 -- nor is there one where what must stay isn't such
 pub nothing_stays : (uses : List Use) (keeps : Option (List (List ℕ))) → None ≡ line_with uses keeps None
-nothing_stays uses keeps = go (names_files (codes "script") uses) (fitting_mode uses) (fitting_jobs uses) keeps
+nothing_stays uses keeps = no_part (names_files (codes "script") uses) (fitting_respell uses) _ (go (fitting_mode uses) (fitting_jobs uses) keeps)
   where
-    go : (files : Bool) (mode : Option ModeOptions) (jobs : Option ℕ) (keeps : Option (List (List ℕ)))
-        → None ≡ (if files then line_of_parts uses mode jobs keeps None else None)
-    go false mode jobs keeps = refl
-    go true None jobs keeps = refl
-    go true (Some mode) None keeps = refl
-    go true (Some mode) (Some jobs) None = refl
-    go true (Some mode) (Some jobs) (Some keeps) = refl
+    go : (mode : Option ModeOptions) (jobs : Option ℕ) (keeps : Option (List (List ℕ))) → None ≡ line_of_parts uses mode jobs keeps None
+    go None jobs keeps = refl
+    go (Some mode) None keeps = refl
+    go (Some mode) (Some jobs) None = refl
+    go (Some mode) (Some jobs) (Some keeps) = refl
 
 pub line_without_files : (uses : List Use) (keeps : Option (List (List ℕ))) (protects : Option ProtectOptions) → names_files (codes "script") uses ≡ false
     → None ≡ line_with uses keeps protects
 line_without_files uses keeps protects none =
-    sym (ap (λ (b : Bool). if b then line_of_parts uses (fitting_mode uses) (fitting_jobs uses) keeps protects else None) none)
+    sym (ap (λ (b : Bool). if b then line_by uses (fitting_respell uses) (fitting_mode uses) (fitting_jobs uses) keeps protects else None) none)
 
 pub line_without_mode : (uses : List Use) (keeps : Option (List (List ℕ))) (protects : Option ProtectOptions) → None ≡ fitting_mode uses
     → None ≡ line_with uses keeps protects
 line_without_mode uses keeps protects none =
-    go (names_files (codes "script") uses)
-    ∙ ap (λ (mode : Option ModeOptions). if names_files (codes "script") uses then line_of_parts uses mode (fitting_jobs uses) keeps protects else None) none
-  where
-    go : (files : Bool) → None ≡ (if files then line_of_parts uses None (fitting_jobs uses) keeps protects else None)
-    go true = refl
-    go false = refl
+    no_part (names_files (codes "script") uses) (fitting_respell uses) (line_of_parts uses None (fitting_jobs uses) keeps protects) refl
+    ∙ ap
+    (λ (mode : Option ModeOptions).
+    if names_files (codes "script") uses then line_by uses (fitting_respell uses) mode (fitting_jobs uses) keeps protects else None) none
+
+pub line_without_respell : (uses : List Use) (keeps : Option (List (List ℕ))) (protects : Option ProtectOptions) → None ≡ fitting_respell uses
+    → None ≡ line_with uses keeps protects
+line_without_respell uses keeps protects none =
+    either_nothing (names_files (codes "script") uses)
+    ∙ ap
+    (λ (respell : Option Bool).
+    if names_files (codes "script") uses then line_by uses respell (fitting_mode uses) (fitting_jobs uses) keeps protects else None) none
 
 pub line_without_jobs : (uses : List Use) (keeps : Option (List (List ℕ))) (protects : Option ProtectOptions) → None ≡ fitting_jobs uses
     → None ≡ line_with uses keeps protects
 line_without_jobs uses keeps protects none =
-    go (names_files (codes "script") uses) (fitting_mode uses)
-    ∙ ap (λ (jobs : Option ℕ). if names_files (codes "script") uses then line_of_parts uses (fitting_mode uses) jobs keeps protects else None) none
+    no_part (names_files (codes "script") uses) (fitting_respell uses) (line_of_parts uses (fitting_mode uses) None keeps protects) (go (fitting_mode uses))
+    ∙ ap
+    (λ (jobs : Option ℕ).
+    if names_files (codes "script") uses then line_by uses (fitting_respell uses) (fitting_mode uses) jobs keeps protects else None) none
   where
-    go : (files : Bool) (mode : Option ModeOptions) → None ≡ (if files then line_of_parts uses mode None keeps protects else None)
-    go false mode = refl
-    go true None = refl
-    go true (Some mode) = refl
+    go : (mode : Option ModeOptions) → None ≡ line_of_parts uses mode None keeps protects
+    go None = refl
+    go (Some mode) = refl
+
+-- where `--respell` goes with the other options, it is said whether it is there
+respell_is : (uses : List Use) (respell : Bool) → Some respell ≡ fitting_respell uses → respell ≡ is_given (codes "respell") uses
+respell_is uses respell fits = by _ fits
+  where
+    by : (b : Bool) → Some respell ≡ (if b then None else Some (is_given (codes "respell") uses)) → respell ≡ is_given (codes "respell") uses
+    by true fits = absurd (cc fits)
+    by false fits = same_Some respell (is_given (codes "respell") uses) fits
 
 -- what is said of the files, of the journal and of the folder, by their options
-line_is : (uses : List Use) (mode : ModeOptions) (jobs : ℕ) (keeps : List (List ℕ)) (protects : ProtectOptions) (input output script : List ℕ)
-    (journal resume : Option (List ℕ)) (work : List ℕ)
+line_is : (uses : List Use) (mode : ModeOptions) (respell : Bool) (jobs : ℕ) (keeps : List (List ℕ)) (protects : ProtectOptions)
+    (input output script : List ℕ) (journal resume : Option (List ℕ)) (work : List ℕ) → respell ≡ is_given (codes "respell") uses
     → input ≡ text_of (codes "input") uses
     → output ≡ text_of (codes "output") uses → script ≡ text_of (codes "script") uses → journal ≡ value_of (codes "journal") uses
     → resume ≡ value_of (codes "resume") uses → work ≡ value_or (codes "perses-work") (codes "work") uses
     → Some
     (record {
       mode = mode;
+      respell = respell;
       input = input;
       output = output;
       script = script;
@@ -184,18 +223,19 @@ line_is : (uses : List Use) (mode : ModeOptions) (jobs : ℕ) (keeps : List (Lis
       protects = protects;
     })
     ≡ line_of_parts uses (Some mode) (Some jobs) (Some keeps) (Some protects)
-line_is uses mode jobs keeps protects input output script journal resume work input_is output_is script_is journal_is resume_is work_is =
-    rw (input_is, output_is, script_is, journal_is, resume_is, work_is) refl
+line_is uses mode respell jobs keeps protects input output script journal resume work respell_is input_is output_is script_is journal_is resume_is work_is =
+    rw (respell_is, input_is, output_is, script_is, journal_is, resume_is, work_is) refl
 
-pub this_line : (uses : List Use) (mode : ModeOptions) (jobs : ℕ) (keeps : List (List ℕ)) (protects : ProtectOptions) (input output script : List ℕ)
-    (journal resume : Option (List ℕ)) (work : List ℕ)
+pub this_line : (uses : List Use) (mode : ModeOptions) (respell : Bool) (jobs : ℕ) (keeps : List (List ℕ)) (protects : ProtectOptions)
+    (input output script : List ℕ) (journal resume : Option (List ℕ)) (work : List ℕ)
     → (names_files (codes "script") uses ≡ true) × (input ≡ text_of (codes "input") uses) × (output ≡ text_of (codes "output") uses)
     × (script ≡ text_of (codes "script") uses)
     → journal ≡ value_of (codes "journal") uses → resume ≡ value_of (codes "resume") uses
     → work ≡ value_or (codes "perses-work") (codes "work") uses → Some mode ≡ fitting_mode uses
-    → Some jobs ≡ fitting_jobs uses
+    → Some respell ≡ fitting_respell uses → Some jobs ≡ fitting_jobs uses
     → Some (record {
       mode = mode;
+      respell = respell;
       input = input;
       output = output;
       script = script;
@@ -207,10 +247,13 @@ pub this_line : (uses : List Use) (mode : ModeOptions) (jobs : ℕ) (keeps : Lis
       protects = protects;
     })
     ≡ line_with uses (Some keeps) (Some protects)
-this_line uses mode jobs keeps protects input output script journal resume work files journal_is resume_is work_is mode_is jobs_are =
-    line_is uses mode jobs keeps protects input output script journal resume work files.1 files.2 files.3 journal_is resume_is work_is
+this_line uses mode respell jobs keeps protects input output script journal resume work files journal_is resume_is work_is mode_is fits jobs_are =
+    line_is uses mode respell jobs keeps protects input output script journal resume work (respell_is uses respell fits) files.1 files.2 files.3
+    journal_is resume_is work_is
     ∙ ap₂ (λ (m : Option ModeOptions) (j : Option ℕ). line_of_parts uses m j (Some keeps) (Some protects)) mode_is jobs_are
-    ∙ sym (ap (λ (b : Bool). if b then line_of_parts uses (fitting_mode uses) (fitting_jobs uses) (Some keeps) (Some protects) else None) files.0)
+    ∙ ap (λ (r : Option Bool). line_by uses r (fitting_mode uses) (fitting_jobs uses) (Some keeps) (Some protects)) fits
+    ∙ sym (ap (λ (b : Bool). if b then line_by uses (fitting_respell uses) (fitting_mode uses) (fitting_jobs uses) (Some keeps) (Some protects) else None)
+    files.0)
 
 -- ---- a line of `check`
 

@@ -64,15 +64,16 @@ spans_fit values = ap (λ (b : Bool). b && list_all (takes_value any_lines) valu
 
 -- ---- tables
 
-reduce_conjuncts : (a b c e g j m n o a' b' c' d l e' f g' h r i j' k m' n' o' : Bool) → a ≡ a' → b ≡ b' → c ≡ c' → d ≡ true → l ≡ true → e ≡ e' → f ≡ true
-    → g ≡ g' → h ≡ true → r ≡ true → i ≡ true → j ≡ j' → k ≡ true → m ≡ m' → n ≡ n' → o ≡ o'
-    → (a && (b && (c && (d && (l && (e && (f && (g && (h && (r && (i && (j && (k && (m && (n && (o && true))))))))))))))))
+reduce_conjuncts : (a b c e g j m n o a' b' c' d l e' f g' h r i j' k s m' n' o' : Bool) → a ≡ a' → b ≡ b' → c ≡ c' → d ≡ true → l ≡ true → e ≡ e'
+    → f ≡ true → g ≡ g' → h ≡ true → r ≡ true → i ≡ true → j ≡ j' → k ≡ true → s ≡ true → m ≡ m' → n ≡ n' → o ≡ o'
+    → (a && (b && (c && (d && (l && (e && (f && (g && (h && (r && (i && (j && (k && (s && (m && (n && (o && true)))))))))))))))))
     ≡ ((a' && (b' && c')) && (e' && (g' && (j' && (m' && (n' && o'))))))
-reduce_conjuncts a b c e g j m n o a' b' c' d l e' f g' h r i j' k m' n' o' a_is b_is c_is d_is l_is e_is f_is g_is h_is r_is i_is j_is k_is m_is n_is o_is =
-    rw (a_is, b_is, c_is, d_is, l_is, e_is, f_is, g_is, h_is, r_is, i_is, j_is, k_is, m_is, n_is, o_is) (regroup a' b' c' e' g' j' m' n' o')
+reduce_conjuncts a b c e g j m n o a' b' c' d l e' f g' h r i j' k s m' n' o' a_is b_is c_is d_is l_is e_is f_is g_is h_is r_is i_is
+    j_is k_is s_is m_is n_is o_is =
+    rw (a_is, b_is, c_is, d_is, l_is, e_is, f_is, g_is, h_is, r_is, i_is, j_is, k_is, s_is, m_is, n_is, o_is) (regroup a' b' c' e' g' j' m' n' o')
   where
     regroup : (a b c e g j m n o : Bool)
-        → (a && (b && (c && (true && (true && (e && (true && (g && (true && (true && (true && (j && (true && (m && (n && (o && true))))))))))))))))
+        → (a && (b && (c && (true && (true && (e && (true && (g && (true && (true && (true && (j && (true && (true && (m && (n && (o && true)))))))))))))))))
         ≡ ((a && (b && c)) && (e && (g && (j && (m && (n && o))))))
     regroup false b c e g j m n o = refl
     regroup true false c e g j m n o = refl
@@ -89,7 +90,7 @@ pub reduce_fits : (uses : List Use) → IsOnce reduce_table uses
     && (nat_le (length (values_for (codes "protect-text") uses)) 8 && values_fit any_lines (codes "only") uses))))))
 reduce_fits uses once =
     let g : List ℕ → List (List ℕ) = λ name. values_for name uses in
-    reduce_conjuncts _ _ _ _ _ _ _ _ _ _ _ _ _ _ _ _ _ _ _ _ _ _ _ _ _
+    reduce_conjuncts _ _ _ _ _ _ _ _ _ _ _ _ _ _ _ _ _ _ _ _ _ _ _ _ _ _
     (required_fits (g (codes "input")) (once (required (codes "input") Values.any_text) refl refl))
     (required_fits (g (codes "output")) (once (required (codes "output") Values.any_text) refl refl))
     (required_fits (g (codes "script")) (once (required (codes "script") Values.any_text) refl refl))
@@ -104,6 +105,7 @@ reduce_fits uses once =
     (optional_fits (g (codes "work")) (once (optional (codes "work") Values.any_text) refl refl))
     (keeps_fit (g (codes "keep")))
     (flag_fits (g (codes "squeeze")) (once (optional (codes "squeeze") Values.no_value) refl refl))
+    (flag_fits (g (codes "respell")) (once (optional (codes "respell") Values.no_value) refl refl))
     (spans_fit (g (codes "protect")))
     (keeps_fit (g (codes "protect-text")))
     (optional_values_fit any_lines (g (codes "only")) (once (optional (codes "only") any_lines) refl refl))

@@ -1,5 +1,5 @@
 -- Which words are a command line, and what it asks for.
-use Rattle.std.specs.Prelude.{ℕ, ◌||◌, Bool, List, [], ◌∷◌, ◌++◌, Option, Some, None, if◌then◌else◌, codes}
+use Rattle.std.specs.Prelude.{ℕ, ◌||◌, ◌&&◌, Bool, List, [], ◌∷◌, ◌++◌, Option, Some, None, if◌then◌else◌, codes}
 use Rattle.std.specs.Prelude.{is_some, map, option_and_then, option_map, slice_get, unwrap_or}
 use Rattle.std.specs.Str.{bytes_eq}
 use Rattle.std.specs.Str.Parse.{digits_value}
@@ -31,10 +31,12 @@ pub record ProtectOptions : Type 0 where
   pub texts : List (List ℕ)
   pub only : Option LineSpan
 
--- what a command line of `reduce` gives: the mode; the paths of the input, the output, the script and the journal; that of the
--- journal that is resumed, where one is; the folder of the candidates; the number of workers; the keep texts; and which lines must stay
+-- what a command line of `reduce` gives: the mode; whether what is left is respelled; the paths of the input, the output, the script and
+-- the journal; that of the journal that is resumed, where one is; the folder of the candidates; the number of workers; the keep texts;
+-- and which lines must stay
 pub record ReduceOptions : Type 0 where
   pub mode : ModeOptions
+  pub respell : Bool
   pub input : List ℕ
   pub output : List ℕ
   pub script : List ℕ
@@ -132,6 +134,7 @@ protects_in uses = record {
 abbrev pub reduction_in : List Use → ModeOptions → ReduceOptions
 reduction_in uses mode = record {
   mode = mode;
+  respell = is_given (codes "respell") uses;
   input = text_of (codes "input") uses;
   output = text_of (codes "output") uses;
   script = text_of (codes "script") uses;
@@ -143,8 +146,19 @@ reduction_in uses mode = record {
   protects = protects_in uses;
 }
 
+-- it is said which lines must stay
+abbrev pub says_protects : List Use → Bool
+says_protects uses = is_given (codes "protect") uses || (is_given (codes "protect-text") uses || is_given (codes "only") uses)
+
+-- whether what is left is respelled: `--respell` goes neither with `--mode lines` nor with lines that must stay
+abbrev pub fitting_respell : List Use → Option Bool
+fitting_respell uses =
+    if is_given (codes "respell") uses && (bytes_eq (text_of (codes "mode") uses) (codes "lines") || says_protects uses)
+    then None
+    else Some (is_given (codes "respell") uses)
+
 abbrev pub reduce_of : List Use → Option ReduceOptions
-reduce_of uses = option_map (reduction_in uses) (mode_options uses)
+reduce_of uses = option_and_then (λ respell. option_map (reduction_in uses) (mode_options uses)) (fitting_respell uses)
 
 abbrev pub selftest_of : List Use → SelftestOptions
 selftest_of uses = record { number = number_of (codes "number") uses; size = number_of (codes "size") uses; mode = tree_mode_of uses }

@@ -38,6 +38,7 @@ journal_of line = unwrap_or (option_map (λ journal. journal.now) line.journal) 
 abbrev pub reduce_read : ReduceLine → ReduceOptions
 reduce_read line = record {
   mode = mode_of line.mode;
+  respell = line.respell;
   input = line.input.now;
   output = line.output.now;
   script = line.script.now;

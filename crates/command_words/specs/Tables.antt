@@ -22,7 +22,8 @@ tree_modes = codes "perses" ∷ codes "hdd" ∷ []
 abbrev pub any_lines : Values
 any_lines = Values.lines 1 4294967295
 
--- `--grammar` must be there unless the mode is `lines`, in which it may not be, nor may `--lexer`, `--start` or `--squeeze`: `mode_options` says so
+-- `--grammar` must be there unless the mode is `lines`, in which it may not be, nor may `--lexer`, `--start` or `--squeeze`: `mode_options` says so.
+-- With which options `--respell` may be is said by `fitting_respell`.
 abbrev pub reduce_table : List OptionRow
 reduce_table =
     required (codes "input") Values.any_text
@@ -38,10 +39,11 @@ reduce_table =
     ∷ (optional (codes "work") Values.any_text
     ∷ (repeated 8 (codes "keep") Values.any_text
     ∷ (optional (codes "squeeze") Values.no_value
+    ∷ (optional (codes "respell") Values.no_value
     ∷ (repeated 8 (codes "protect") any_lines
     ∷ (repeated 8 (codes "protect-text") Values.any_text
     ∷ (optional (codes "only") any_lines
-    ∷ [])))))))))))))))
+    ∷ []))))))))))))))))
 
 -- the files of a run are named, and the mode and the keep texts are said as for `reduce`
 abbrev pub check_table : List OptionRow

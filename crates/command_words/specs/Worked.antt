@@ -26,6 +26,7 @@ plain_reduction mode =
     Command.reduce
     (record {
       mode = mode;
+      respell = false;
       input = codes "i";
       output = codes "o";
       script = codes "s";
@@ -48,6 +49,7 @@ with_all = record {
     mode = Hdd;
     squeeze = true;
   });
+  respell = false;
   input = codes "i";
   output = codes "o";
   script = codes "s";
@@ -63,6 +65,22 @@ with_all = record {
   };
 }
 
+-- a reduction by that grammar with a keep text, which respells what is left
+abbrev pub respelled_by_g : ReduceOptions
+respelled_by_g = record {
+  mode = by_g;
+  respell = true;
+  input = codes "i";
+  output = codes "o";
+  script = codes "s";
+  journal = codes "o.journal";
+  resume = None;
+  work = codes "perses-work";
+  jobs = 1;
+  keeps = codes "a" ∷ [];
+  protects = record { lines = []; texts = []; only = None };
+}
+
 -- a check of the run that reduced the file `i` to the file `o` with the journal `j`
 abbrev pub check_of_run : ModeOptions → List (List ℕ) → CheckOptions
 check_of_run mode keeps = record { mode = mode; input = codes "i"; output = codes "o"; journal = codes "j"; keeps = keeps }
@@ -74,6 +92,10 @@ after_check more = codes "perses check --input i --output o" ++ more
 -- the words of mode `lines`, and others after them
 abbrev pub after_lines : List ℕ → List ℕ
 after_lines more = codes "perses reduce --mode lines --input i --output o --script s" ++ more
+
+-- the words of a reduction by a grammar, and others after them
+abbrev pub after_trees : List ℕ → List ℕ
+after_trees more = codes "perses reduce --grammar g --input i --output o --script s" ++ more
 
 abbrev pub refused_lines : List (List ℕ)
 refused_lines =
@@ -91,6 +113,13 @@ refused_lines =
     ∷ codes "perses reduce --lexer l --input i --output o --script s"
     ∷ after_lines (codes " --lexer l")
     ∷ after_lines (codes " --squeeze")
+    ∷ after_lines (codes " --respell")
+    ∷ after_trees (codes " --respell --protect 1-2")
+    ∷ after_trees (codes " --protect-text t --respell")
+    ∷ after_trees (codes " --respell --only 1-2")
+    ∷ after_trees (codes " --respell --respell")
+    ∷ after_trees (codes " --respell=1")
+    ∷ after_check (codes " --grammar g --journal j --respell")
     ∷ after_lines (codes " --jobs 0")
     ∷ after_lines (codes " --jobs 17")
     ∷ after_lines (codes " --jobs 01")
@@ -118,6 +147,7 @@ pub record WorkedLines : Type 0 where
   pub apart : asked (after_lines []) ≡ Some (plain_reduction ModeOptions.lines)
   pub joined : asked (codes "perses reduce --script=s --output=o --mode=lines --input=i") ≡ Some (plain_reduction ModeOptions.lines)
   pub by_grammar : asked (codes "perses reduce --grammar g --input i --output o --script s") ≡ Some (plain_reduction by_g)
+  pub respelled : asked (after_trees (codes " --respell --keep a")) ≡ Some (Command.reduce respelled_by_g)
   pub normal : asked (codes "perses normal --start r --grammar g")
       ≡ Some (Command.normal (record { path = codes "g"; lexer = None; start = Some (codes "r") }))
   pub split : asked (codes "perses normal --grammar=g --lexer=l")

@@ -56,6 +56,8 @@ pub struct ProtectLine<'a> {
 pub struct ReduceLine<'a> {
     /// Which states are tried.
     pub mode: ModeLine<'a>,
+    /// Whether what is left takes shorter spellings. Only by a grammar.
+    pub respell: bool,
     /// The file to be reduced.
     pub input: &'a str,
     /// The file that the result is written to.

@@ -1,10 +1,11 @@
 //! Command lines of `reduce`.
 
-ghost use Rattle.std.specs.Prelude.{◌≡◌, List, IfOk, MatchOption, codes, false, map, option_and_then, option_map, string_bytes, true, IfSome, ◌≤◌};
+ghost use Rattle.std.specs.Prelude.{◌≡◌, ◌≤◌, ◌&&◌, List, IfOk, IfSome, MatchOption, Some, None, codes, false, if◌then◌else◌, map, option_and_then};
+ghost use Rattle.std.specs.Prelude.{option_map, string_bytes, true};
 ghost use Rattle.command_words.specs.Options.{Use, where_fits};
 ghost use Rattle.command_words.specs.Tables.{reduce_table};
 ghost use Rattle.command_words.specs.inner.Found.{HasFound, fitting_jobs, line_with, names_files};
-ghost use Rattle.command_words.specs.Commands.{reduce_line, reduce_of, text_of};
+ghost use Rattle.command_words.specs.Commands.{fitting_respell, reduce_line, reduce_of, says_protects, text_of};
 ghost use Rattle.command_words.specs.Lines.{journal_of, protects_read, reduce_read};
 
 use crate::commands::{ProtectLine, ReduceLine};
@@ -17,7 +18,7 @@ use faults::Memory;
 use std::alloc::Global;
 
 /// The options of `reduce`.
-static OPTIONS: [ClapOption; 16] = [
+static OPTIONS: [ClapOption; 17] = [
     ClapOption {
         name: "input",
         takes: Takes::Value,
@@ -68,6 +69,10 @@ static OPTIONS: [ClapOption; 16] = [
     },
     ClapOption {
         name: "squeeze",
+        takes: Takes::Nothing,
+    },
+    ClapOption {
+        name: "respell",
         takes: Takes::Nothing,
     },
     ClapOption {
@@ -132,9 +137,11 @@ fn line_with<'a>(
 {
     let files = files_of(matches)?;
     let mode = mode_of(matches)?;
+    let respell = respell_of(matches)?;
     let jobs = jobs_of(matches)?;
     Some(ReduceLine {
         mode,
+        respell,
         input: files.input,
         output: files.output,
         script: files.script,
@@ -170,6 +177,39 @@ fn files_of<'a>(matches: &ArgMatches<'a>) -> Option<Files<'a>>
         output,
         script,
     })
+}
+
+/// Whether it is said which lines must stay.
+fn says_protects(matches: &ArgMatches<'_>) -> bool
+    ensures { (uses : List Use) → HasFound reduce_table uses matches.now → result ≡ says_protects uses }
+{
+    let lines = matches.contains_id("protect");
+    let texts = matches.contains_id("protect-text");
+    let only = matches.contains_id("only");
+    let named = lines || texts;
+    named || only
+}
+
+/// Whether what is left is respelled. None where that doesn't go with the other options.
+fn respell_of(matches: &ArgMatches<'_>) -> Option<bool>
+    ensures { (uses : List Use) → HasFound reduce_table uses matches.now → result ≡ fitting_respell uses }
+{
+    let respell = matches.get_flag("respell");
+    let mode = matches.get_str("mode").unwrap_or("perses");
+    let lines = mode == "lines";
+    let protects = says_protects(matches);
+    respell_if(respell, lines || protects)
+}
+
+/// Whether what is left is respelled. None where another option excludes it.
+fn respell_if(respell: bool, excluded: bool) -> Option<bool>
+    ensures { result ≡ (if respell && excluded then None else Some respell) }
+{
+    if respell && excluded {
+        None
+    } else {
+        Some(respell)
+    }
 }
 
 /// How many workers there are.

@@ -61,6 +61,11 @@ pub enum WordFault<'a> {
     NotWithLines {
         option: &'static str,
     },
+    /// Both options are there.
+    NotWith {
+        option: &'static str,
+        other: &'static str,
+    },
 }
 
 impl fmt::Display for WordFault<'_> {
@@ -102,6 +107,9 @@ impl fmt::Display for WordFault<'_> {
             WordFault::Missing { command, option } => write!(f, "{command} lacks --{option}"),
             WordFault::NotWithLines { option } => {
                 write!(f, "--{option} doesn't go with --mode lines")
+            }
+            WordFault::NotWith { option, other } => {
+                write!(f, "--{option} doesn't go with --{other}")
             }
         }
     }

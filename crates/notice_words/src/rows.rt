@@ -32,7 +32,7 @@ pub(crate) struct Row {
     pub(crate) required: bool,
 }
 
-static REDUCE: [&str; 16] = [
+static REDUCE: [&str; 17] = [
     "input",
     "output",
     "script",
@@ -46,6 +46,7 @@ static REDUCE: [&str; 16] = [
     "work",
     "keep",
     "squeeze",
+    "respell",
     "protect",
     "protect-text",
     "only",
@@ -72,7 +73,7 @@ pub(crate) fn options_of(command: &str) -> Option<&'static [&'static str]> {
 
 fn takes_of(command: &str, option: &str) -> Takes {
     match option {
-        "squeeze" => Takes::Nothing,
+        "squeeze" | "respell" => Takes::Nothing,
         "protect" | "only" => Takes::Lines,
         "jobs" => Takes::Number(1, 16),
         "number" => Takes::Number(0, 4_294_967_295),

@@ -57,6 +57,19 @@ fn names_the_word_or_the_option(rt: HostRuntime) -> Result<(), AllocError> {
             "--squeeze takes no value",
         ),
         (
+            "{files} --mode lines --respell",
+            "--respell doesn't go with --mode lines",
+        ),
+        (
+            "{files} --grammar g --respell --only 1-2",
+            "--respell doesn't go with --only",
+        ),
+        ("{files} --grammar g --respell --keep a", "nothing"),
+        (
+            "{run} --grammar g --respell",
+            "check has no option '--respell'",
+        ),
+        (
             "{files} --mode lines --protect 2-1",
             "--protect wants the numbers of a first and a last line, as 7-12: '2-1'",
         ),

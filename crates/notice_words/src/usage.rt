@@ -2,8 +2,8 @@
 pub const USAGE: &str = "\
 usage: perses reduce --input F --output F --script F (--grammar F|--mode lines)
        perses check --input F --output F --journal F (--grammar F|--mode lines)
-       perses normal --grammar F [--lexer F] [--start R]
-       perses selftest --number N --size K [--mode M]
+       perses normal --grammar F [--lexer F] [--start R] prints the normal form
+       perses selftest --number N --size K [--mode M] reduces a generated case
 Of an input that makes something fail, reduce writes the part that matters.
   --input F    the file to be reduced
   --output F   where the result is written
@@ -21,7 +21,7 @@ Of an input that makes something fail, reduce writes the part that matters.
   --protect-text T  each line with this text must stay, up to 8 times
   --only A-B   all lines but A to B must stay
   --squeeze    tries the input without comments and long gaps first
-normal prints the normal form of a grammar. selftest reduces a generated case.
+  --respell    gives what is left shorter names and numbers of the input
 check says whether the files of a run agree; it takes --lexer, --start, --keep
 and --squeeze too. PERSES_QUIET=1 silences standard error; without a terminal
 PERSES_PROGRESS=1 adds a line each 10 s. See man ./docs/perses.1, docs/GUIDE.md.

@@ -110,9 +110,23 @@ fn check_grammar<'a>(command: &'a str, words: &'a [String]) -> Result<(), WordFa
         }
         return Ok(());
     }
-    for option in ["grammar", "lexer", "start", "squeeze"] {
+    for option in ["grammar", "lexer", "start", "squeeze", "respell"] {
         if count_of(words, option) > 0 {
             return Err(WordFault::NotWithLines { option });
+        }
+    }
+    Ok(())
+}
+
+/// Whether `--respell` goes with what else is there.
+fn check_respell<'a>(words: &'a [String]) -> Result<(), WordFault<'a>> {
+    let option = "respell";
+    if count_of(words, option) == 0 {
+        return Ok(());
+    }
+    for other in ["protect", "protect-text", "only"] {
+        if count_of(words, other) > 0 {
+            return Err(WordFault::NotWith { option, other });
         }
     }
     Ok(())
@@ -125,7 +139,8 @@ fn check<'a>(
 ) -> Result<(), WordFault<'a>> {
     check_words(command, words)?;
     check_counts(command, options, words)?;
-    check_grammar(command, words)
+    check_grammar(command, words)?;
+    check_respell(words)
 }
 
 /// What is wrong with words that are no command line, the first of which is the program's name. None

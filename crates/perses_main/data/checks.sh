@@ -15,6 +15,7 @@ make_script() {
     chmod 755 "$1"
 }
 make_script has-a 'grep -q a "$1"'
+make_script has-equals 'grep -q = "$1"'
 make_script always 'exit 0'
 make_script no-run-bit 'exit 0'
 chmod 644 no-run-bit
@@ -361,6 +362,13 @@ printf 'b=2;a=1;' > two
 "$program" reduce --grammar grammar --input two --output o --script has-a > put
 test "$(cat o)" = 'a=1;'
 ends 0 'check: yes' check --grammar grammar --input two --output o --journal o.journal
+# One that respells what is left isn't checked: its last answer is to a text that no tree has.
+printf 'abc=1;d=22;' > names
+for jobs in 4 1; do
+    "$program" reduce --grammar grammar --input names --output o --script has-equals --respell --jobs "$jobs" > put
+    test "$(cat o)" = 'd=1;'
+done
+ends 15 'perses: check: event 9 is not legal' check --grammar grammar --input names --output o --journal o.journal
 
 # Help is no command, and no words are no command line.
 for word in --help -h --version -V; do

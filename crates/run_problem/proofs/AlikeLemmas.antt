@@ -23,6 +23,9 @@ use Rattle.reduce_trees.specs.Laws.{WalksAreRecursions}
 use Rattle.reduce_trees.specs.TreeRounds.{tree_round}
 use Rattle.reduce_trees.specs.WalkMode.{walk_mode}
 use Rattle.reduce_trees_mode.specs.InStyles.{tree_recursion}
+use Rattle.spell_shrink.specs.Laws.{SpellersAreRecursions}
+use Rattle.spell_shrink.specs.SpellMode.{spell_mode}
+use Rattle.spell_shrink.specs.SpellRecursion.{spell_recursion}
 use Rattle.run_problem.specs.Problem.{IsProblem, Problem, StateOf, counts_of, questions_of, recursion_of, reduced_text}
 use Rattle.run_problem.specs.Problem.{reduced_units, reduction_of, rounds_of, start_text, units_of}
 use Rattle.run_problem.specs.Laws.{ProblemsReduceAlike, RunsReduceAlike, VerdictsAgree}
@@ -38,16 +41,23 @@ moved {T = T} one other same alike V W agree has has' =
     (subst (λ (r : Reduction T). HasVerdicts W r.questions) (same (says_yes W)) has')
     ∙ sym (same (says_yes W))
 
-pub problems_reduce_alike : LinesAreRecursions → WalksAreRecursions Perses visit_round → WalksAreRecursions Hdd level_round → ProblemsReduceAlike
-problems_reduce_alike lines visits levels guard (Problem.of_lines start) is =
+pub problems_reduce_alike : LinesAreRecursions → WalksAreRecursions Perses visit_round → WalksAreRecursions Hdd level_round
+    → SpellersAreRecursions visit_round Perses → SpellersAreRecursions level_round Hdd → ProblemsReduceAlike
+problems_reduce_alike lines visits levels spelled spelled_levels guard (Problem.of_lines start) is =
     moved (line_recursion guard start) (trials.recursion_of (line_mode (record { admits = guard; start = start })))
     (λ verdict. lines guard verdict start) (agreeing_maps (line_mode (record { admits = guard; start = start })))
-problems_reduce_alike lines visits levels guard (Problem.of_tree Perses input) is =
+problems_reduce_alike lines visits levels spelled spelled_levels guard (Problem.of_tree Perses input) is =
     moved (tree_recursion (tree_round Perses input) input) (trials.recursion_of (walk_mode visit_round input)) (λ verdict. visits input verdict is)
     (agreeing_maps (walk_mode visit_round input))
-problems_reduce_alike lines visits levels guard (Problem.of_tree Hdd input) is =
+problems_reduce_alike lines visits levels spelled spelled_levels guard (Problem.of_tree Hdd input) is =
     moved (tree_recursion (tree_round Hdd input) input) (trials.recursion_of (walk_mode level_round input)) (λ verdict. levels input verdict is)
     (agreeing_maps (walk_mode level_round input))
+problems_reduce_alike lines visits levels spelled spelled_levels guard (Problem.of_respelling Perses input) is =
+    moved (spell_recursion Perses input) (trials.recursion_of (spell_mode visit_round input)) (λ verdict. spelled input verdict is)
+    (agreeing_maps (spell_mode visit_round input))
+problems_reduce_alike lines visits levels spelled spelled_levels guard (Problem.of_respelling Hdd input) is =
+    moved (spell_recursion Hdd input) (trials.recursion_of (spell_mode level_round input)) (λ verdict. spelled_levels input verdict is)
+    (agreeing_maps (spell_mode level_round input))
 
 module _ (guard : Admits) (V W : List ℕ → Option Verdict) (agree : Agree V W) where
   -- what is told of a reduction is the same of both

@@ -42,7 +42,9 @@ use Rattle.reduce_core.proofs.Lent.{text-numbered_lines}
 use Rattle.syntax_tree.specs.Trees.{leaves}
 use Rattle.reduce_trees_mode.specs.Input.{IsInput, TreeInput, TreeState}
 use Rattle.reduce_trees_mode.specs.Candidates.{IsCandidate}
+use Rattle.reduce_trees_mode.specs.Laws.{WholeIsStart}
 use Rattle.reduce_trees_mode.specs.Listed.{IsKept, text_of_state}
+use Rattle.token_print.specs.Laws.{all_kept}
 use Rattle.reduce_trees.specs.Ends.{AdmitsStart, BeginsWith, IsEndBy}
 use Rattle.reduce_trees.specs.Laws.{WalksAreRecursions}
 use Rattle.reduce_trees.specs.WalkMode.{walk_mode}
@@ -172,6 +174,7 @@ module _ (guard : Admits) where
                 admitted = ap (guard (numbers_of R.state)) text ∙ well.listed;
                 candidate = record { lines = R.state; some = well.kept; listed = well.listed; joined = text };
                 minimal = well.minimal;
+                respells = tt;
               };
           is_counts = are_counts
               ∙ ap (λ (r : StepResult). ends.counts_of_result (length (numbered_lines start)) (length (text_of (numbered_lines start))) r (length records))
@@ -267,6 +270,10 @@ pub unfinished_without : (K : KeptVerdicts) (guard : Admits) (problem : Problem)
 unfinished_without K guard problem =
     record { waits = none_waits guard problem; not_no = λ first_no. first_no; whole = sym (none_own guard problem K) }
 
+-- the start is admitted with the leaves of its tree, which are all tokens
+pub admitted : (input : TreeInput) → WholeIsStart → IsInput input → input.admits (all_kept input.tokens) input.start ≡ true → AdmitsStart input
+admitted input whole is kept = subst (λ (numbers : List ℕ). input.admits numbers input.start ≡ true) (sym (whole input is).tokens) kept
+
 -- What a run of a reducer of trees says, in the words of the reduction of trees.
 module _ (mode : TreeMode) (laws : IsTreeMode (round_trials mode) (IsEditBy mode)) (recursions : WalksAreRecursions mode (round_trials mode))
     (by : HistoriesGoByQuestions) (input : TreeInput) (is : IsInput input) (admitted : AdmitsStart input) (run : Run) where
@@ -338,6 +345,7 @@ module _ (mode : TreeMode) (laws : IsTreeMode (round_trials mode) (IsEditBy mode
                   sym (ap (λ (a : Admits). a (leaves R.state.tree) result.text) admits) ∙ ap (input.admits (leaves R.state.tree)) text ∙ end.listed.admitted;
               candidate = candidate;
               minimal = end.minimal;
+              respells = tt;
             };
         is_counts = are_counts
             ∙ ap (λ (r : StepResult). ends.counts_of_result (trees.size trees.start) (length (trees.text trees.start)) r (length tree_records))

@@ -2,13 +2,14 @@
 use Rattle.std.proofs.Common.{◌≡◌, ◌≤◌, ◌<◌, ◌+◌, ◌++◌, arith, ℕ, zero, suc, Bool, true, false, cond, List, [], ◌∷◌, length}
 use Rattle.std.proofs.Common.{Option, Some, None, max, refl, sym, ap, ◌∙◌, subst, append-nil, length-append}
 use Rattle.std.specs.List.{IsDistinct}
+use Rattle.std.specs.Option.{option_map_or}
 use Rattle.std.specs.Str.{bytes_eq}
 use Rattle.script_gate_trait.specs.declared.gate.Verdict.{Verdict}
 use Rattle.script_gate_trait.specs.declared.gate.Verdict.TheVariants.{Yes, No}
 use Rattle.verdict_table.specs.declared.record.Record.{Record}
 use Rattle.verdict_table.specs.TableState.{Extends, texts_of, verdict_in}
 use Rattle.verdict_table.proofs.Lent.{extends_itself}
-use Rattle.reduce_step.specs.Plan.{Plan, End, Ask, HasEnded, after, height}
+use Rattle.reduce_step.specs.Plan.{Plan, StepResult, End, Ask, HasEnded, after, height}
 use Rattle.reduce_journal.specs.History.{AllMayFollow, History, IsHistory, records_of}
 use Rattle.reduce_journal.specs.declared.event.Event.TheVariants.{Recorded, Committed}
 use Rattle.ordered_commit_moves.specs.Moves.{KeptVerdicts}
@@ -32,6 +33,9 @@ use Rattle.reduce_step.specs.declared.mode.TreeMode.TheVariants.{Hdd, Perses}
 use Rattle.reduce_trees.specs.Laws.{WalksAreRecursions}
 use Rattle.reduce_trees.specs.WalkMode.{walk_mode}
 use Rattle.reduce_trees_mode.specs.Input.{TreeState}
+use Rattle.spell_shrink.specs.Laws.{SpellersAreRecursions}
+use Rattle.spell_shrink.specs.Respelled.{SpellState}
+use Rattle.spell_shrink.specs.SpellMode.{spell_mode}
 use Rattle.run_problem.specs.Committed.{IsPrefix, committed_from, committed_texts, named_text, questions_over, thread_from, with_verdict}
 use Rattle.run_problem.specs.Laws.{HistoriesGoByQuestions, answer_count}
 use Rattle.run_problem.specs.Problem.{IsProblem, Problem, questions_of}
@@ -72,23 +76,30 @@ module _ {T : Type 0} (mode : RoundMode T) (verdict : List ℕ → Bool) where
       (in_trials go go' each state at_no changed (capped_count (used + 1)))
       (in_trials go go' each state at_no changed used)
 
+  in_phase : (go : T → Plan) (go' : T → Reduction T) (result : StepResult) (state : T) (o : Option T) → ((next : T) → AsksAs (go next) (go' next))
+      → AsksAs (option_map_or go o (End result)) (option_map_or go' o (ends_with state false))
+  in_phase go go' result state None later = refl
+  in_phase go go' result state (Some next) later = later next
+
   next : (used rounds : ℕ) (state : T) (changed : Bool) (go : ℕ → ℕ → T → Plan) (go' : T → Reduction T)
-      → AsksAs (go (capped_count (rounds + 1)) used state) (go' state) → AsksAs (plan_next mode go rounds state changed used) (next_round go' state changed)
-  next used rounds state true go go' later = later
-  next used rounds state false go go' later = refl
+      → ((remaining : T) → AsksAs (go (capped_count (rounds + 1)) used remaining) (go' remaining))
+      → AsksAs (plan_next mode go rounds state changed used) (next_round mode.next_phase go' state changed)
+  next used rounds state true go go' later = later state
+  next used rounds state false go go' later =
+      in_phase (go (capped_count (rounds + 1)) used) go' (step_result mode state used (capped_count (rounds + 1)) false) state (mode.next_phase state) later
 
   in_rounds : (n rounds used : ℕ) (state : T) → AsksAs (plan_within n mode rounds used state) (rounds_in mode verdict n state)
   unfolding plan_within
   in_rounds zero rounds used state = refl
   in_rounds (suc n) rounds used state =
-      in_trials (plan_next mode (λ r u l. plan_within n mode r u l) rounds) (next_round (λ l. rounds_in mode verdict n l))
+      in_trials (plan_next mode (λ r u l. plan_within n mode r u l) rounds) (next_round mode.next_phase (λ l. rounds_in mode verdict n l))
       (λ remaining changed used'. next used' rounds remaining changed (λ r u l. plan_within n mode r u l) (λ l. rounds_in mode verdict n l)
-      (in_rounds n (capped_count (rounds + 1)) used' remaining))
+      (λ l. in_rounds n (capped_count (rounds + 1)) used' l))
       state (mode.round state) false used
 
   in_all_rounds : (used : ℕ) (state : T) → AsksAs (plan_rounds mode 0 used state) (all_rounds mode verdict state)
   unfolding plan_rounds
-  in_all_rounds used state = in_rounds (suc (mode.size state)) 0 used state
+  in_all_rounds used state = in_rounds (suc (mode.measure state)) 0 used state
 
   whole : AsksAs (plan_first mode) (reduction_in mode verdict)
   whole =
@@ -103,16 +114,20 @@ module _ {T : Type 0} (mode : RoundMode T) (verdict : List ℕ → Bool) where
   asks_questions = whole ∙ sym (ap (λ (r : Reduction T). r.questions) (reduction-in mode verdict))
 
 -- of a problem
-problem_asks : LinesAreRecursions → WalksAreRecursions Perses visit_round → WalksAreRecursions Hdd level_round → (guard : Admits) (problem : Problem)
-    → IsProblem problem
+problem_asks : LinesAreRecursions → WalksAreRecursions Perses visit_round → WalksAreRecursions Hdd level_round
+    → SpellersAreRecursions visit_round Perses → SpellersAreRecursions level_round Hdd → (guard : Admits) (problem : Problem) → IsProblem problem
     → (V : List ℕ → Option Verdict) → asked_by (says_yes V) (reducer_of guard problem) ≡ questions_of guard problem V
-problem_asks lines visits levels guard (Problem.of_lines start) is V =
+problem_asks lines visits levels spelled spelled_levels guard (Problem.of_lines start) is V =
     asks_questions (line_mode (record { admits = guard; start = start })) (says_yes V)
     ∙ sym (ap (λ (r : Reduction (List Line)). r.questions) (lines guard (says_yes V) start))
-problem_asks lines visits levels guard (Problem.of_tree Perses input) is V =
+problem_asks lines visits levels spelled spelled_levels guard (Problem.of_tree Perses input) is V =
     asks_questions (walk_mode visit_round input) (says_yes V) ∙ sym (ap (λ (r : Reduction TreeState). r.questions) (visits input (says_yes V) is))
-problem_asks lines visits levels guard (Problem.of_tree Hdd input) is V =
+problem_asks lines visits levels spelled spelled_levels guard (Problem.of_tree Hdd input) is V =
     asks_questions (walk_mode level_round input) (says_yes V) ∙ sym (ap (λ (r : Reduction TreeState). r.questions) (levels input (says_yes V) is))
+problem_asks lines visits levels spelled spelled_levels guard (Problem.of_respelling Perses input) is V =
+    asks_questions (spell_mode visit_round input) (says_yes V) ∙ sym (ap (λ (r : Reduction SpellState). r.questions) (spelled input (says_yes V) is))
+problem_asks lines visits levels spelled spelled_levels guard (Problem.of_respelling Hdd input) is V =
+    asks_questions (spell_mode level_round input) (says_yes V) ∙ sym (ap (λ (r : Reduction SpellState). r.questions) (spelled_levels input (says_yes V) is))
 
 -- ---- where it has ended
 
@@ -283,12 +298,13 @@ module _ (first : Plan) (history : History) (questions : List (List ℕ)) (asks 
   has_ended : IsLegal first history → committed_texts history ≡ questions → HasEnded (replay first history)
   has_ended legal all = asks_ended (says_yes V) (replay first history) (nothing_more (committed_texts history) left_asks (sym (all_asked legal) ∙ sym all))
 
-pub histories_go : LinesAreRecursions → WalksAreRecursions Perses visit_round → WalksAreRecursions Hdd level_round → HistoriesGoByQuestions
-histories_go lines visits levels guard problem is history =
+pub histories_go : LinesAreRecursions → WalksAreRecursions Perses visit_round → WalksAreRecursions Hdd level_round → SpellersAreRecursions visit_round Perses
+    → SpellersAreRecursions level_round Hdd → HistoriesGoByQuestions
+histories_go lines visits levels spelled spelled_levels guard problem is history =
     let V : List ℕ → Option Verdict = verdict_in (records_of history) in
     let first : Plan = reducer_of guard problem in
     let questions : List (List ℕ) = questions_over guard problem history in
-    let asks : asked_by (says_yes V) first ≡ questions = problem_asks lines visits levels guard problem is V in
+    let asks : asked_by (says_yes V) first ≡ questions = problem_asks lines visits levels spelled spelled_levels guard problem is V in
     record {
       answers = first_asked first history questions asks;
       legal = is_legal first history questions asks;

@@ -12,17 +12,17 @@ use Rattle.reduce_trees_input.specs.Parsed.{IsParsed, kinds_in, tokens_in, tree_
 use Rattle.reduce_trees_input.specs.declared.parsed.ParsedInput.{ParsedInput}
 use Rattle.run_problem.specs.declared.problem.ReadProblem.{ReadProblem}
 use Rattle.run_problem.specs.declared.problem.ReadProblem.TheVariants as read
-use Rattle.run_problem.specs.Problem.{Problem}
+use Rattle.run_problem.specs.Problem.{Problem, tree_problem}
 
 -- the text of what was read
 abbrev pub start_read : ReadProblem → List ℕ
 start_read (read.Lines start) = start.items
-start_read (read.Tree found mode squeeze) = string_bytes found.text
+start_read (read.Tree found mode squeeze respell) = string_bytes found.text
 
 -- the numbers, from 0, of its lines or tokens
 abbrev pub numbers_read : ReadProblem → List ℕ
 numbers_read (read.Lines start) = numbers_of (numbered_lines start.items)
-numbers_read (read.Tree found mode squeeze) = all_kept (tokens_in found.tokens)
+numbers_read (read.Tree found mode squeeze respell) = all_kept (tokens_in found.tokens)
 
 -- What was found is of its own grammar, which is checked, and of its own text, and the tree is that of all of its tokens.
 pub record IsFoundIn (found : ParsedInput) : Type 0 where
@@ -34,10 +34,10 @@ pub record IsFoundIn (found : ParsedInput) : Type 0 where
 -- it can be reduced
 abbrev pub IsReady : ReadProblem → Type 0
 IsReady (read.Lines start) = length start.items ≤ text_limit
-IsReady (read.Tree found mode squeeze) = IsFoundIn found
+IsReady (read.Tree found mode squeeze respell) = IsFoundIn found
 
 -- it is this problem, where this is what is admitted
 abbrev pub IsReadAs : Admits → ReadProblem → Problem → Type 0
 IsReadAs guard (read.Lines start) problem = problem ≡ Problem.of_lines start.items
-IsReadAs guard (read.Tree found mode squeeze) problem =
-    (formed : IsWellFormed found.lexer.grammar found.lexer.start) × (problem ≡ Problem.of_tree mode (tree_input found formed guard squeeze))
+IsReadAs guard (read.Tree found mode squeeze respell) problem =
+    (formed : IsWellFormed found.lexer.grammar found.lexer.start) × (problem ≡ tree_problem respell mode (tree_input found formed guard squeeze))

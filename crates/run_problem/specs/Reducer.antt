@@ -12,6 +12,7 @@ use Rattle.reduce_core.specs.Reduction.{Admits}
 use Rattle.reduce_perses.specs.VisitRounds.{visit_round}
 use Rattle.reduce_hdd.specs.LevelRounds.{level_round}
 use Rattle.reduce_trees.specs.WalkMode.{walk_mode}
+use Rattle.spell_shrink.specs.SpellMode.{spell_mode}
 use Rattle.run_problem.specs.Problem.{Problem}
 
 -- what a round of the mode tries of a tree for a symbol of a normal form: by the nodes, the heaviest first, or by the levels of the tree
@@ -23,3 +24,4 @@ round_trials Hdd = level_round
 abbrev pub reducer_of : Admits → Problem → Plan
 reducer_of guard (Problem.of_lines start) = line_plan guard start
 reducer_of guard (Problem.of_tree mode input) = plan_first (walk_mode (round_trials mode) input)
+reducer_of guard (Problem.of_respelling mode input) = plan_first (spell_mode (round_trials mode) input)

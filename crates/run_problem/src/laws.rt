@@ -6,6 +6,7 @@ ghost use Rattle.run_problem.specs.Laws.{AnswersAreBounded, HistoriesGoByQuestio
 use reduce_core::lines_are_recursions;
 use reduce_trees::{hdd_is_its_recursion, perses_is_its_recursion};
 use script_gate_trait::Gate;
+use spell_shrink::{hdd_speller_is_its_recursion, perses_speller_is_its_recursion};
 
 /// Reductions of a problem over two maps of verdicts that agree are equal.
 pub fn problems_reduce_alike()
@@ -14,6 +15,8 @@ pub fn problems_reduce_alike()
     lines_are_recursions();
     perses_is_its_recursion();
     hdd_is_its_recursion();
+    perses_speller_is_its_recursion();
+    hdd_speller_is_its_recursion();
 }
 
 /// Two runs of a problem whose verdicts agree come to one text, and to one report but for the number
@@ -42,4 +45,6 @@ pub fn histories_go_by_questions()
     lines_are_recursions();
     perses_is_its_recursion();
     hdd_is_its_recursion();
+    perses_speller_is_its_recursion();
+    hdd_speller_is_its_recursion();
 }

@@ -16,4 +16,4 @@ pub use laws::{
 };
 pub use problem::ReadProblem;
 pub use reduce_step::TreeMode;
-pub use run::{run_problem, tree_parts, walk_laws};
+pub use run::{run_problem, spell_laws, tree_parts};

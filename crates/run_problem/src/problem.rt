@@ -11,12 +11,13 @@ use reduce_trees_input::ParsedInput;
 pub enum ReadProblem {
     /// The bytes of an input, by its lines.
     Lines(Vec<u8>),
-    /// What is found in an input by a grammar, by its tree; how a round goes through the tree, and
-    /// whether the squeezed text is tried.
+    /// What is found in an input by a grammar, by its tree; how a round goes through the tree, whether
+    /// the squeezed text is tried, and whether what is left is respelled.
     Tree {
         found: ParsedInput,
         mode: TreeMode,
         squeeze: bool,
+        respell: bool,
     },
 }
 

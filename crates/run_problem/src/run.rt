@@ -13,10 +13,12 @@ ghost use Rattle.reduce_trees_mode.specs.Listed.{IsKept};
 ghost use Rattle.run_gated.specs.Run.{run_of};
 ghost use Rattle.run_gated.specs.Workers.{AreIdle};
 ghost use Rattle.run_gated.specs.RunEnds.{IsRunIn, IsSound};
-ghost use Rattle.run_problem.specs.Problem.{Problem};
+ghost use Rattle.run_problem.specs.Problem.{Problem, tree_problem};
 ghost use Rattle.run_problem.specs.Read.{IsFoundIn, IsReadAs, IsReady, numbers_read, start_read};
 ghost use Rattle.run_problem.specs.Ends.{IsRunOf};
-ghost use Rattle.run_problem.specs.TreeMode.{IsTreeMode};
+ghost use Rattle.run_problem.specs.TreeMode.{IsSpellMode, IsTreeMode};
+ghost use Rattle.spell_shrink.specs.KindWords.{AreWordsOf};
+ghost use Rattle.spell_shrink.specs.SpellMode.{IsKeptInPhase, spell_mode};
 
 use crate::laws::histories_go_by_questions;
 use crate::problem::ReadProblem;
@@ -39,9 +41,15 @@ use reduce_trees_mode::{texts_are_no_longer, whole_is_start};
 use reduce_walk::TreeWalk;
 use run_gated::{Known, Ran, RunFault, run_to_text};
 use script_gate_trait::Gate;
+use spell_shrink::{
+    Speller, Words, hdd_speller, hdd_speller_is_its_recursion, perses_speller,
+    perses_speller_is_its_recursion, respells_candidates, respells_from_start, respells_reductions,
+    respells_to_end, spell_mode_is_lawful, spell_phases_agree,
+};
 use std::alloc::Global;
 use std::sync::Wait;
 use std::thread::Threads;
+use token_laws::tokens_are_in_order;
 use worker_pool::Worker;
 
 /// The text that the lines of a start reduce to.
@@ -101,7 +109,7 @@ pub fn tree_parts<F: Relation + Drop>(
 
 /// What holds of reductions of trees in the mode of a walk. It does nothing: a caller calls it so that
 /// its proof knows.
-pub fn walk_laws<W: TreeWalk>()
+fn walk_laws<W: TreeWalk>()
     ensures { IsTreeMode W.round W.IsEdit }
 {
     walks_begin::<W>();
@@ -187,6 +195,166 @@ fn tree_result<
     }
 }
 
+/// What holds of reductions of trees in the mode of a walk, with the respelling of what is left. It does
+/// nothing: a caller calls it so that its proof knows.
+pub fn spell_laws<W: TreeWalk>()
+    ensures { IsSpellMode W.round W.IsEdit }
+{
+    walk_laws::<W>();
+    respells_from_start::<W>();
+    respells_candidates::<W>();
+    spell_mode_is_lawful::<W>();
+    spell_phases_agree::<W>();
+    respells_to_end::<W>();
+    respells_reductions::<W>();
+}
+
+/// The text that a speller comes to, in the mode of a walk.
+fn speller_result<
+    'p,
+    F: Relation + Drop + Sync,
+    W: TreeWalk + Drop + Send,
+    G: Gate + Send,
+    J: Sink + Drop + Send,
+    T: Threads + Wait + Sync,
+>(
+    rt: &T,
+    alloc: Global,
+    speller: Speller<'p, F, W>,
+    workers: &mut [Worker<G>],
+    journal: J,
+    known: Known,
+) -> Ran<J>
+    requires new { ⟦<Speller<'p, F, W> as Step>⟧.first speller ≡ ⟦<Speller<'p, F, W> as Step>⟧.plan speller }
+    requires idle { AreIdle workers.old }
+    requires empty { IfSome (J.put_so_far journal) (λ put. put.bytes ≡ []) }
+    ensures idle { AreIdle workers.new }
+    ensures as_many { length workers.new ≡ length workers.old }
+    ensures sound { IsSound G.may_say (run_of G.log G.faults J.put_so_far J.faults workers.old workers.new journal known result) }
+    ensures in_mode { (input : TreeInput) → ⟦<Speller<'p, F, W> as Step>⟧.first speller.entry ≡ plan_first (spell_mode W.round input)
+        → IsRunIn (spell_mode W.round input) (IsKeptInPhase input) (⟦<Speller<'p, F, W> as ReducerStep>⟧.so_far speller.entry)
+        (run_of G.log G.faults J.put_so_far J.faults workers.old workers.new journal known result) }
+{
+    run_to_text(rt, alloc, speller, workers, journal, known)
+}
+
+/// The text that the tree of an input reduces to in this mode, with the shorter spellings that it takes.
+/// The words are the spellings of the input.
+fn spelled_result<
+    F: Relation + Drop + Sync,
+    G: Gate + Send,
+    J: Sink + Drop + Send,
+    T: Threads + Wait + Sync,
+>(
+    rt: &T,
+    alloc: Global,
+    mode: TreeMode,
+    parts: &TreeParts<F>,
+    words: &Words<'_>,
+    workers: &mut [Worker<G>],
+    journal: J,
+    known: Known,
+) -> Ran<J>
+    requires kept { let input = ⟦<TreeParts<F> as HasInput>⟧.input parts.now in input.admits (all_kept input.tokens) input.start ≡ true }
+    requires words { let input = ⟦<TreeParts<F> as HasInput>⟧.input parts.now in AreWordsOf input.start input.tokens words.now }
+    requires idle { AreIdle workers.old }
+    requires empty { IfSome (J.put_so_far journal) (λ put. put.bytes ≡ []) }
+    ensures idle { AreIdle workers.new }
+    ensures as_many { length workers.new ≡ length workers.old }
+    ensures sound { IsSound G.may_say (run_of G.log G.faults J.put_so_far J.faults workers.old workers.new journal known result) }
+    ensures problem { let input = ⟦<TreeParts<F> as HasInput>⟧.input parts.now in IsRunOf input.admits (Problem.of_respelling mode input)
+        (run_of G.log G.faults J.put_so_far J.faults workers.old workers.new journal known result) }
+{
+    parts.is_input();
+    whole_is_start();
+    histories_go_by_questions();
+    match mode {
+        TreeMode::Perses => {
+            spell_laws::<TreeVisits>();
+            perses_speller_is_its_recursion();
+            perses_is_its_recursion();
+            match perses_speller(alloc, parts, words) {
+                Ok(speller) => speller_result(rt, alloc, speller, workers, journal, known),
+                Err(_) => Ran::refused(alloc, journal, RunFault::Memory),
+            }
+        }
+        TreeMode::Hdd => {
+            spell_laws::<TreeLevels>();
+            hdd_speller_is_its_recursion();
+            hdd_is_its_recursion();
+            match hdd_speller(alloc, parts, words) {
+                Ok(speller) => speller_result(rt, alloc, speller, workers, journal, known),
+                Err(_) => Ran::refused(alloc, journal, RunFault::Memory),
+            }
+        }
+    }
+}
+
+/// The same, with the spellings of the input.
+fn respelled_result<
+    F: Relation + Drop + Sync,
+    G: Gate + Send,
+    J: Sink + Drop + Send,
+    T: Threads + Wait + Sync,
+>(
+    rt: &T,
+    alloc: Global,
+    mode: TreeMode,
+    parts: &TreeParts<F>,
+    workers: &mut [Worker<G>],
+    journal: J,
+    known: Known,
+) -> Ran<J>
+    requires kept { let input = ⟦<TreeParts<F> as HasInput>⟧.input parts.now in input.admits (all_kept input.tokens) input.start ≡ true }
+    requires idle { AreIdle workers.old }
+    requires empty { IfSome (J.put_so_far journal) (λ put. put.bytes ≡ []) }
+    ensures idle { AreIdle workers.new }
+    ensures as_many { length workers.new ≡ length workers.old }
+    ensures sound { IsSound G.may_say (run_of G.log G.faults J.put_so_far J.faults workers.old workers.new journal known result) }
+    ensures problem { let input = ⟦<TreeParts<F> as HasInput>⟧.input parts.now in IsRunOf input.admits (Problem.of_respelling mode input)
+        (run_of G.log G.faults J.put_so_far J.faults workers.old workers.new journal known result) }
+{
+    parts.is_input();
+    tokens_are_in_order();
+    match Words::of(alloc, parts.start(), parts.tokens()) {
+        Ok(words) => spelled_result(rt, alloc, mode, parts, &words, workers, journal, known),
+        Err(_) => Ran::refused(alloc, journal, RunFault::Memory),
+    }
+}
+
+/// The text that the tree of an input reduces to in this mode, with the shorter spellings that it takes where
+/// these are asked for.
+fn result_by_tree<
+    F: Relation + Drop + Sync,
+    G: Gate + Send,
+    J: Sink + Drop + Send,
+    T: Threads + Wait + Sync,
+>(
+    rt: &T,
+    alloc: Global,
+    mode: TreeMode,
+    respell: bool,
+    parts: &TreeParts<F>,
+    workers: &mut [Worker<G>],
+    journal: J,
+    known: Known,
+) -> Ran<J>
+    requires kept { let input = ⟦<TreeParts<F> as HasInput>⟧.input parts.now in input.admits (all_kept input.tokens) input.start ≡ true }
+    requires idle { AreIdle workers.old }
+    requires empty { IfSome (J.put_so_far journal) (λ put. put.bytes ≡ []) }
+    ensures idle { AreIdle workers.new }
+    ensures as_many { length workers.new ≡ length workers.old }
+    ensures sound { IsSound G.may_say (run_of G.log G.faults J.put_so_far J.faults workers.old workers.new journal known result) }
+    ensures problem { let input = ⟦<TreeParts<F> as HasInput>⟧.input parts.now in IsRunOf input.admits (tree_problem respell mode input)
+        (run_of G.log G.faults J.put_so_far J.faults workers.old workers.new journal known result) }
+{
+    if respell {
+        respelled_result(rt, alloc, mode, parts, workers, journal, known)
+    } else {
+        tree_result(rt, alloc, mode, parts, workers, journal, known)
+    }
+}
+
 /// Reduces what was read, which the guard admits. The gates of the workers are asked, and the history is
 /// written into the journal, whose head gets the digest of the start. The text that it reduces to is given,
 /// with what the report says. No text is recorded twice; a text that has a kept verdict is recorded with it,
@@ -225,9 +393,12 @@ pub fn run_problem<
             found,
             mode,
             squeeze,
+            respell,
         } => {
             match tree_parts(alloc, found, guard, squeeze) {
-                Ok(parts) => tree_result(rt, alloc, mode, &parts, workers, journal, known),
+                Ok(parts) => result_by_tree(
+                    rt, alloc, mode, respell, &parts, workers, journal, known,
+                ),
                 Err(_) => Ran::refused(alloc, journal, RunFault::Memory),
             }
         }

@@ -23,7 +23,7 @@ use Rattle.command_reduce.specs.inner.Resume.{ResumeRefused}
 -- what must stay of what was read
 abbrev pub stays_read : ReduceOptions → ReadProblem → Stays
 stays_read options (read.Lines start) = lines_stay options start.items
-stays_read options (read.Tree found mode squeeze) = tokens_stay options (string_bytes found.text) (tokens_in found.tokens)
+stays_read options (read.Tree found mode squeeze respell) = tokens_stay options (string_bytes found.text) (tokens_in found.tokens)
 
 -- what is admitted of it
 abbrev pub admits_read : ReduceOptions → ReadProblem → Admits

@@ -6,8 +6,8 @@ use Rattle.clap.specs.Words.{found_of}
 use Rattle.clap.specs.declared.parser.matches.ArgMatches.{ArgMatches}
 use Rattle.command_words.specs.Options.{LineSpan, OptionRow, Use, Values, row_of, span_of, takes_value, values_for}
 use Rattle.command_words.specs.Tables.{any_lines, optional, tree_modes}
-use Rattle.command_words.specs.Commands.{CheckOptions, ModeOptions, ProtectOptions, ReduceOptions, check_in, is_given, mode_options, number_of}
-use Rattle.command_words.specs.Commands.{reduction_in, value_of, value_or}
+use Rattle.command_words.specs.Commands.{CheckOptions, ModeOptions, ProtectOptions, ReduceOptions, check_in, fitting_respell, is_given, mode_options}
+use Rattle.command_words.specs.Commands.{number_of, reduction_in, value_of, value_or}
 use Rattle.command_words.specs.inner.Read.{HasUses, IsOnce, NamesValue}
 
 -- the matches have these uses of options of the table
@@ -78,9 +78,18 @@ line_of_parts uses (Some mode) (Some jobs) (Some keeps) None = None
 line_of_parts uses (Some mode) (Some jobs) (Some keeps) (Some protects) =
     Some (record (reduction_in uses mode) { jobs = jobs; keeps = keeps; protects = protects })
 
--- the line of these keep texts and these lines that must stay, where its files are named and its mode and its number of workers are such
+-- the line of these parts, where `--respell` fits
+abbrev pub line_if : Option Bool → Option ReduceOptions → Option ReduceOptions
+line_if None line = None
+line_if (Some respell) line = line
+
+-- The line of these keep texts and these lines that must stay, where its files are named, its mode and its number of workers are such, and `--respell` goes
+-- with the other options.
 abbrev pub line_with : List Use → Option (List (List ℕ)) → Option ProtectOptions → Option ReduceOptions
-line_with uses keeps protects = if names_files (codes "script") uses then line_of_parts uses (fitting_mode uses) (fitting_jobs uses) keeps protects else None
+line_with uses keeps protects =
+    if names_files (codes "script") uses
+    then line_if (fitting_respell uses) (line_of_parts uses (fitting_mode uses) (fitting_jobs uses) keeps protects)
+    else None
 
 -- the check of these parts, where each is there
 abbrev pub check_of_parts : List Use → Option ModeOptions → Option (List (List ℕ)) → Option CheckOptions

@@ -7,6 +7,7 @@ returns c = record {
   apart = refl;
   joined = refl;
   by_grammar = refl;
+  respelled = refl;
   normal = refl;
   split = refl;
   selftest = refl;

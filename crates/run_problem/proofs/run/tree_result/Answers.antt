@@ -1,8 +1,5 @@
-use Rattle.std.proofs.Common.{◌≡◌, ℕ, List, true, ap, refl, sym, subst}
-use Rattle.token_print.specs.Laws.{all_kept}
-use Rattle.reduce_trees_mode.specs.Input.{IsInput, TreeInput}
-use Rattle.reduce_trees_mode.specs.Laws.{WholeIsStart}
-use Rattle.reduce_trees.specs.Ends.{AdmitsStart}
+use Rattle.std.proofs.Common.{ap, refl, sym, subst}
+use Rattle.reduce_trees_mode.specs.Input.{TreeInput}
 use Rattle.reduce_trees_mode.specs.InputOf.{input_of}
 use Rattle.reduce_step.specs.declared.mode.TreeMode.{TreeMode}
 use Rattle.reduce_step.specs.declared.mode.TreeMode.TheVariants.{Hdd, Perses}
@@ -10,12 +7,8 @@ use Rattle.run_gated.specs.Seen.{reached}
 use Rattle.run_gated.specs.Run.{Run, run_of}
 use Rattle.run_problem.specs.Problem.{Problem}
 use Rattle.run_problem.specs.Ends.{IsRunOf}
-use Rattle.run_problem.proofs.ModeLemmas.{refused_of, refused_sound, tree_run}
+use Rattle.run_problem.proofs.ModeLemmas.{admitted, refused_of, refused_sound, tree_run}
 use Rattle.run_problem.proofs.run.tree_result.Goals as goal
-
--- the start is admitted with the leaves of its tree, which are all tokens
-admitted : (input : TreeInput) → WholeIsStart → IsInput input → input.admits (all_kept input.tokens) input.start ≡ true → AdmitsStart input
-admitted input whole is kept = subst (λ (numbers : List ℕ). input.admits numbers input.start ≡ true) (sym (whole input is).tokens) kept
 
 pub returns-in-Err-clause-sound : goal.returns-in-Err-clause-sound
 returns-in-Err-clause-sound g c =
