@@ -86,22 +86,32 @@ fn read_for(alloc: Global, lexer: &Lexer, text: &str, times: u32) -> Result<u64>
     Ok(reads)
 }
 
-fn main(rt: HostRuntime) -> Result<()> {
-    let alloc = rt.alloc();
-    let words: Vec<String> = env::args(&rt)?.collect(alloc)?;
+/// The lexer of the grammar Mini.
+fn mini_lexer(alloc: Global) -> Result<Lexer> {
+    match checked(alloc, MINI, None) {
+        Ok(checked) => Ok(Lexer::build(alloc, &checked)?),
+        Err(refused) => bail!("the grammar is refused: {refused:?}"),
+    }
+}
+
+/// How often pieces are read for what the words of the command line ask for.
+fn reads(rt: &HostRuntime, alloc: Global, words: &[String]) -> Result<u64> {
     if words.len() != 3 {
         bail!("give the name of a text, and how often it is looked at");
     }
     let times = words[2].as_str().parse::<u32>()?;
-    let text = fs::read_to_string(&rt, words[1].as_str())?;
+    let text = fs::read_to_string(rt, words[1].as_str())?;
     if text.len() >= u32::MAX as usize {
         bail!("the file is too long");
     }
-    let lexer = match checked(alloc, MINI, None) {
-        Ok(checked) => Lexer::build(alloc, &checked)?,
-        Err(refused) => bail!("the grammar is refused: {refused:?}"),
-    };
-    let reads = read_for(alloc, &lexer, text.as_str(), times)?;
+    let lexer = mini_lexer(alloc)?;
+    read_for(alloc, &lexer, text.as_str(), times)
+}
+
+fn main(rt: HostRuntime) -> Result<()> {
+    let alloc = rt.alloc();
+    let words: Vec<String> = env::args(&rt)?.collect(alloc)?;
+    let reads = reads(&rt, alloc, &words)?;
     println!(rt; "{reads} reads")?;
     Ok(())
 }

@@ -165,18 +165,27 @@ fn show_row(
     show_case(rt, alloc, language, start, steps)
 }
 
+/// Prints the line, and then takes the grammar that it names, or answers the row.
+fn answer_line(rt: &HostRuntime, alloc: Global, language: &mut Language, line: &str) -> Result<()> {
+    println!(rt; "{line}")?;
+    let (question, text) = line.split_once(' ').unwrap_or((line, ""));
+    if question != "grammar" {
+        return show_row(rt, alloc, language, question, text);
+    }
+    *language = language_named(rt, alloc, text)?;
+    Ok(())
+}
+
+/// Answers the lines of the input, one after another.
+fn answer_lines(rt: &HostRuntime, alloc: Global, language: &mut Language) -> Result<()> {
+    for line in rt.lines(alloc) {
+        answer_line(rt, alloc, language, line?.as_str())?;
+    }
+    Ok(())
+}
+
 fn main(rt: HostRuntime) -> Result<()> {
     let alloc = rt.alloc();
     let mut language = Language::new(alloc, "grammar G; a : 'a' ;")?;
-    for line in rt.lines(alloc) {
-        let line = line?;
-        println!(rt; "{line}")?;
-        let (question, text) = line.as_str().split_once(' ').unwrap_or((line.as_str(), ""));
-        if question == "grammar" {
-            language = language_named(&rt, alloc, text)?;
-        } else {
-            show_row(&rt, alloc, &language, question, text)?;
-        }
-    }
-    Ok(())
+    answer_lines(&rt, alloc, &mut language)
 }

@@ -9,7 +9,7 @@ ghost use Rattle.lexer.specs.Pieces.{ArePiecesOf};
 ghost use Rattle.lexer.specs.Tokens.{HasTokens, token_of};
 
 use anyhow::{Result, bail};
-use lexer::{LexFault, LexReader, Lexer, Pieces, Tokens};
+use lexer::{LexFault, LexReader, Lexer, Piece, Pieces, Tokens};
 use std::alloc::Global;
 use test_grammars::checked;
 use test_grammars::grammars::{JOINED, STATEMENTS};
@@ -26,6 +26,23 @@ const HASHES: &str =
 /// With characters of several bytes, and a token that sees far.
 const ACCENTS: &str =
     "grammar U; s : ID* ; ID : [aé]+ ; M : '-' ; F : 'a' '-'* 'é' ; SP : ' ' -> skip ;";
+
+/// Grammars, and texts that decide their pieces.
+const SEEN: [(&str, &str); 4] = [
+    (STATEMENTS, "a=1;"),
+    (STATEMENTS, "a"),
+    (COMMENTED, "/* / /*a"),
+    (ACCENTS, "a--éa--"),
+];
+
+/// Grammars, and the characters of their random starts.
+const RANDOM: [(&str, &[char]); 5] = [
+    (STATEMENTS, &['a', 'b', '1', '=', ';', '{', '+', ' ', '\n']),
+    (JOINED, &['a', 'b', ',']),
+    (COMMENTED, &['a', '/', '*', ' ', '\n']),
+    (HASHES, &['a', 'q', '-', '#', ' ']),
+    (ACCENTS, &['a', 'é', '-', ' ']),
+];
 
 /// How many starts are made for a grammar.
 const STARTS: u32 = 200;
@@ -158,6 +175,33 @@ fn numbers_in(alloc: Global, mask: u32, bound: u32) -> Result<Vec<u32>> {
     Ok(numbers)
 }
 
+/// Counts on the kept tokens in both styles.
+fn count_both(start: &Start, kept: &[u32], counts: &mut Counts) -> Result<()>
+    requires small { length start.now.text.now < 2 ^ 32 - 1 }
+    requires tokens { HasTokens start.now.lexer.now.grammar (chars start.now.text.now) (map token_of start.now.tokens.now.items.items) }
+    requires pieces { ArePiecesOf start.now.lexer.now.grammar start.now.text.now start.now.pieces.now }
+{
+    count(start, kept, Style::AsWas, counts)?;
+    count(start, kept, Style::Squeezed, counts)
+}
+
+/// Counts on all kept lists of the start, if it has few tokens.
+fn count_all(start: &Start, counts: &mut Counts) -> Result<()>
+    requires small { length start.now.text.now < 2 ^ 32 - 1 }
+    requires tokens { HasTokens start.now.lexer.now.grammar (chars start.now.text.now) (map token_of start.now.tokens.now.items.items) }
+    requires pieces { ArePiecesOf start.now.lexer.now.grammar start.now.text.now start.now.pieces.now }
+{
+    let many = start.tokens.items.len();
+    if many > MOST_TOKENS {
+        return Ok(());
+    }
+    for mask in 0..1u32 << many as u32 {
+        let kept = numbers_in(start.alloc, mask, many as u32)?;
+        count_both(start, &kept, counts)?;
+    }
+    Ok(())
+}
+
 /// Counts on all kept lists of the start, if it is cut into few tokens.
 fn count_start(alloc: Global, lexer: &Lexer, text: &str, counts: &mut Counts) -> Result<()> {
     if text.len() >= u32::MAX as usize {
@@ -167,10 +211,6 @@ fn count_start(alloc: Global, lexer: &Lexer, text: &str, counts: &mut Counts) ->
         return Ok(());
     };
     let pieces = pieces_of(lexer, text)?;
-    let many = tokens.items.len();
-    if many > MOST_TOKENS {
-        return Ok(());
-    }
     let start = Start {
         alloc,
         lexer,
@@ -178,12 +218,7 @@ fn count_start(alloc: Global, lexer: &Lexer, text: &str, counts: &mut Counts) ->
         tokens: &tokens,
         pieces: &pieces,
     };
-    for mask in 0..1u32 << many as u32 {
-        let kept = numbers_in(alloc, mask, many as u32)?;
-        count(&start, &kept, Style::AsWas, counts)?;
-        count(&start, &kept, Style::Squeezed, counts)?;
-    }
-    Ok(())
+    count_all(&start, counts)
 }
 
 /// A text of up to 10 of the characters.
@@ -217,72 +252,118 @@ fn show(rt: &impl Print, counts: Counts) -> Result<()> {
     Ok(())
 }
 
-/// Prints what is counted on the text of the tokens of the start from the first number on and before the
-/// other, as they were.
-fn show_part(rt: &impl Print, alloc: Global, text: &str, first: u32, end: u32) -> Result<()> {
-    let lexer = lexer_of(alloc, STATEMENTS)?;
+/// The numbers from the first on and before the other.
+fn numbers_from(alloc: Global, first: u32, end: u32) -> Result<Vec<u32>> {
+    let mut numbers = Vec::new(alloc);
+    for number in first..end {
+        numbers.push(number)?;
+    }
+    Ok(numbers)
+}
+
+/// What is counted on the kept tokens of the start, as they were.
+fn counted_as_was(start: &Start, kept: &[u32]) -> Result<Counts>
+    requires small { length start.now.text.now < 2 ^ 32 - 1 }
+    requires tokens { HasTokens start.now.lexer.now.grammar (chars start.now.text.now) (map token_of start.now.tokens.now.items.items) }
+    requires pieces { ArePiecesOf start.now.lexer.now.grammar start.now.text.now start.now.pieces.now }
+{
+    let mut counts = NOTHING;
+    count(start, kept, Style::AsWas, &mut counts)?;
+    Ok(counts)
+}
+
+/// What is counted on the text of the kept tokens of the start, as they were.
+fn part_counted(alloc: Global, lexer: &Lexer, text: &str, kept: &[u32]) -> Result<Counts> {
     if text.len() >= u32::MAX as usize {
         bail!("too long");
     }
-    let Some(tokens) = tokens_of(&lexer, text)? else {
+    let Some(tokens) = tokens_of(lexer, text)? else {
         bail!("no tokens");
     };
+    let pieces = pieces_of(lexer, text)?;
     let start = Start {
         alloc,
-        lexer: &lexer,
+        lexer,
         text,
         tokens: &tokens,
-        pieces: &pieces_of(&lexer, text)?,
+        pieces: &pieces,
     };
-    let mut kept = Vec::new(alloc);
-    for number in first..end {
-        kept.push(number)?;
-    }
-    let mut counts = NOTHING;
-    count(&start, &kept, Style::AsWas, &mut counts)?;
+    counted_as_was(&start, kept)
+}
+
+/// Prints what is counted on the text of the tokens of the start from the first number on and before the
+/// other, as they were.
+fn show_part(rt: &impl Print, alloc: Global, text: &str, first: u32, end: u32) -> Result<()> {
+    let kept = numbers_from(alloc, first, end)?;
+    let lexer = lexer_of(alloc, STATEMENTS)?;
+    let counts = part_counted(alloc, &lexer, text, &kept)?;
     show(rt, counts)
 }
 
-/// Prints what was counted on random starts of these characters.
-fn show_counts(rt: &impl Print, alloc: Global, grammar: &str, characters: &[char]) -> Result<()> {
-    let lexer = lexer_of(alloc, grammar)?;
+/// What is counted on random starts of these characters.
+fn counted(alloc: Global, lexer: &Lexer, characters: &[char]) -> Result<Counts> {
     let mut numbers = Numbers { state: 1 };
     let mut counts = NOTHING;
     for _ in 0..STARTS {
         let text = random_text(alloc, &mut numbers, characters)?;
-        count_start(alloc, &lexer, text.as_str(), &mut counts)?;
+        count_start(alloc, lexer, text.as_str(), &mut counts)?;
     }
-    show(rt, counts)
+    Ok(counts)
 }
 
-/// Prints up to where the text decides each of its pieces.
-fn show_seen(rt: &impl Print, alloc: Global, grammar: &str, text: &str) -> Result<()> {
+/// Prints what is counted on random starts of these characters.
+fn show_counts(rt: &impl Print, alloc: Global, grammar: &str, characters: &[char]) -> Result<()> {
     let lexer = lexer_of(alloc, grammar)?;
-    if text.len() >= u32::MAX as usize {
-        bail!("too long");
-    }
-    for piece in &pieces_of(&lexer, text)?.items {
+    show(rt, counted(alloc, &lexer, characters)?)
+}
+
+/// Prints the pieces, each with up to where it is decided.
+fn show_each(rt: &impl Print, pieces: &[Piece]) -> Result<()> {
+    for piece in pieces {
         println!(rt; "{}-{} sees {}", piece.start, piece.end, piece.seen)?;
     }
     Ok(())
 }
 
+/// Prints up to where the text decides each of its pieces.
+fn show_pieces(rt: &impl Print, lexer: &Lexer, text: &str) -> Result<()> {
+    if text.len() >= u32::MAX as usize {
+        bail!("too long");
+    }
+    let pieces = pieces_of(lexer, text)?;
+    show_each(rt, &pieces.items)
+}
+
+/// The same by the grammar that another text spells.
+fn show_seen(rt: &impl Print, alloc: Global, grammar: &str, text: &str) -> Result<()> {
+    let lexer = lexer_of(alloc, grammar)?;
+    show_pieces(rt, &lexer, text)
+}
+
+/// Prints up to where the texts decide their pieces.
+fn show_all_seen(rt: &impl Print, alloc: Global) -> Result<()> {
+    for &(grammar, text) in &SEEN {
+        show_seen(rt, alloc, grammar, text)?;
+    }
+    Ok(())
+}
+
+/// Prints what is counted on random starts of the grammars.
+fn show_all_counts(rt: &impl Print, alloc: Global) -> Result<()> {
+    for &(grammar, characters) in &RANDOM {
+        show_counts(rt, alloc, grammar, characters)?;
+    }
+    Ok(())
+}
+
+/// Prints all.
+fn show_all(rt: &impl Print, alloc: Global) -> Result<()> {
+    show_all_seen(rt, alloc)?;
+    show_part(rt, alloc, "a=1;b=2;c=3;", 4, 12)?;
+    show_part(rt, alloc, "a=1;b=2;c=3;", 0, 4)?;
+    show_all_counts(rt, alloc)
+}
+
 fn main(rt: HostRuntime) -> Result<()> {
-    let alloc = rt.alloc();
-    show_seen(&rt, alloc, STATEMENTS, "a=1;")?;
-    show_seen(&rt, alloc, STATEMENTS, "a")?;
-    show_seen(&rt, alloc, COMMENTED, "/* / /*a")?;
-    show_seen(&rt, alloc, ACCENTS, "a--éa--")?;
-    show_part(&rt, alloc, "a=1;b=2;c=3;", 4, 12)?;
-    show_part(&rt, alloc, "a=1;b=2;c=3;", 0, 4)?;
-    show_counts(
-        &rt,
-        alloc,
-        STATEMENTS,
-        &['a', 'b', '1', '=', ';', '{', '+', ' ', '\n'],
-    )?;
-    show_counts(&rt, alloc, JOINED, &['a', 'b', ','])?;
-    show_counts(&rt, alloc, COMMENTED, &['a', '/', '*', ' ', '\n'])?;
-    show_counts(&rt, alloc, HASHES, &['a', 'q', '-', '#', ' '])?;
-    show_counts(&rt, alloc, ACCENTS, &['a', 'é', '-', ' '])
+    show_all(&rt, rt.alloc())
 }

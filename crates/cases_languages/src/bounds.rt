@@ -44,6 +44,12 @@ fn with_sets(alloc: Global, count: u32) -> Result<String> {
     Ok(out)
 }
 
+/// Whether the lexer of the grammar is built.
+fn is_built(alloc: Global, grammar: &str) -> Result<bool> {
+    let checked = checked_of(alloc, grammar, None)?;
+    Ok(Lexer::build(alloc, &checked).is_ok())
+}
+
 /// Whether the lexer of a grammar is built. The text has `states` or `sets`, and how many there are
 /// of the literal's characters, or of the uses of the set.
 pub(crate) fn built_shown(alloc: Global, text: &str) -> Result<String> {
@@ -54,10 +60,12 @@ pub(crate) fn built_shown(alloc: Global, text: &str) -> Result<String> {
         "sets" => with_sets(alloc, count)?,
         _ => bail!("neither states nor sets: {what}"),
     };
-    match Lexer::build(alloc, &checked_of(alloc, grammar.as_str(), None)?) {
-        Ok(_) => Ok(String::from_str(alloc, "built")?),
-        Err(_) => Ok(String::from_str(alloc, "out of memory")?),
-    }
+    let answer = if is_built(alloc, grammar.as_str())? {
+        "built"
+    } else {
+        "out of memory"
+    };
+    Ok(String::from_str(alloc, answer)?)
 }
 
 /// The rules, and then one with so many blocks. Its normal form has one rule more than it has blocks.

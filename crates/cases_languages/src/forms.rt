@@ -14,10 +14,16 @@ fn form_text(alloc: Global, checked: &Checked) -> Result<Vec<u8>> {
     Ok(normal_text(alloc, checked, &normal)?)
 }
 
+/// The same of a copy of the grammar.
+fn copied_text(alloc: Global, checked: &Checked) -> Result<Vec<u8>> {
+    let copy = checked.copy(alloc)?;
+    form_text(alloc, &copy)
+}
+
 /// The normal form of the grammar, and that a copy of the grammar has the same.
 pub(crate) fn form_shown(alloc: Global, checked: &Checked) -> Result<String> {
     let text = form_text(alloc, checked)?;
-    let copied = form_text(alloc, &checked.copy(alloc)?)?;
+    let copied = copied_text(alloc, checked)?;
     if text.as_slice() != copied.as_slice() {
         return Ok(String::from_str(alloc, "the copy has another one")?);
     }
@@ -69,20 +75,26 @@ fn answer_of(alloc: Global, normal: &Normal, rule: u32, kinds: &[u32]) -> Result
     Ok(derived.to_string(alloc)?)
 }
 
-/// Whether a parser rule derives the list of kinds. The text has the rule's number, `=>` and the kinds.
-/// A number that no parser rule has derives nothing.
-pub(crate) fn derived_shown(alloc: Global, checked: &Checked, text: &str) -> Result<String> {
-    let (rule, kinds) = text.split_once("=>").unwrap_or((text, ""));
-    let kinds = numbers(alloc, kinds)?;
+/// Whether the parser rule with this number derives the list of kinds.
+fn rule_answer(alloc: Global, checked: &Checked, number: u32, kinds: &[u32]) -> Result<String> {
     let normal = normalise(alloc, checked)?;
-    match own_rule(checked, &normal, rule.trim().parse::<u32>()?) {
-        Some(rule) => answer_of(alloc, &normal, rule, &kinds),
+    match own_rule(checked, &normal, number) {
+        Some(rule) => answer_of(alloc, &normal, rule, kinds),
         None => Ok(String::from_str(alloc, "false")?),
     }
 }
 
+/// Whether a parser rule derives the list of kinds. The text has the rule's number, `=>` and the kinds.
+/// A number that no parser rule has derives nothing.
+pub(crate) fn derived_shown(alloc: Global, checked: &Checked, text: &str) -> Result<String> {
+    let (rule, kinds) = text.split_once("=>").unwrap_or((text, ""));
+    let number = rule.trim().parse::<u32>()?;
+    rule_answer(alloc, checked, number, &numbers(alloc, kinds)?)
+}
+
 /// Whether the start derives the list of kinds.
 pub(crate) fn start_shown(alloc: Global, checked: &Checked, text: &str) -> Result<String> {
+    let kinds = numbers(alloc, text)?;
     let normal = normalise(alloc, checked)?;
-    answer_of(alloc, &normal, normal.start(), &numbers(alloc, text)?)
+    answer_of(alloc, &normal, normal.start(), &kinds)
 }

@@ -6,15 +6,21 @@ use grammar_tree::Checked;
 use lexer::Lexer;
 use std::alloc::Global;
 
-/// The tokens of the text, or where no rule matches.
-pub(crate) fn text_shown(alloc: Global, checked: &Checked, text: &str) -> Result<String> {
+/// The tokens that the text is cut into, or where no rule matches.
+fn lexed_text(alloc: Global, lexer: &Lexer, text: &str) -> Result<String> {
     if text.len() > u32::MAX as usize {
         bail!("the text is too long");
     }
-    match Lexer::build(alloc, checked)?.lex(text) {
+    match lexer.lex(text) {
         Ok(tokens) => Ok(tokens_shown(alloc, &tokens.items)?),
         Err(fault) => Ok(fault.to_string(alloc)?),
     }
+}
+
+/// The tokens of the text, or where no rule matches.
+pub(crate) fn text_shown(alloc: Global, checked: &Checked, text: &str) -> Result<String> {
+    let lexer = Lexer::build(alloc, checked)?;
+    lexed_text(alloc, &lexer, text)
 }
 
 /// The characters that are asked about: the printable ones of ASCII, and others.
@@ -41,15 +47,21 @@ fn add_skipped(alloc: Global, lexer: &Lexer, c: char, out: &mut String) -> Resul
     Ok(())
 }
 
+/// Adds the codes of the characters that the lexer skips.
+fn add_all_skipped(alloc: Global, lexer: &Lexer, out: &mut String) -> Result<()> {
+    for c in OTHERS {
+        add_skipped(alloc, lexer, c, out)?;
+    }
+    for c in ' '..='~' {
+        add_skipped(alloc, lexer, c, out)?;
+    }
+    Ok(())
+}
+
 /// The codes, in hexadecimal digits, of the characters that the lexer skips.
 pub(crate) fn skipped_shown(alloc: Global, checked: &Checked) -> Result<String> {
     let lexer = Lexer::build(alloc, checked)?;
     let mut out = String::new(alloc);
-    for c in OTHERS {
-        add_skipped(alloc, &lexer, c, &mut out)?;
-    }
-    for c in ' '..='~' {
-        add_skipped(alloc, &lexer, c, &mut out)?;
-    }
+    add_all_skipped(alloc, &lexer, &mut out)?;
     Ok(out)
 }

@@ -116,22 +116,27 @@ fn print_answer(
     Ok(())
 }
 
-/// Prints the line, and then the answer to its question. The result is the grammar for the next line.
-fn answer_line(rt: &HostRuntime, alloc: Global, grammar: Checked, line: &str) -> Result<Checked> {
+/// Prints the line, and then takes the grammar that it names, or prints the answer to its question.
+fn answer_line(rt: &HostRuntime, alloc: Global, grammar: &mut Checked, line: &str) -> Result<()> {
     println!(rt; "{line}")?;
     let (question, text) = line.split_once(' ').unwrap_or((line, ""));
-    if question == "grammar" {
-        return grammar_named(rt, alloc, text);
+    if question != "grammar" {
+        return print_answer(rt, alloc, grammar, question, text);
     }
-    print_answer(rt, alloc, &grammar, question, text)?;
-    Ok(grammar)
+    *grammar = grammar_named(rt, alloc, text)?;
+    Ok(())
+}
+
+/// Answers the lines of the input, one after another.
+fn answer_lines(rt: &HostRuntime, alloc: Global, grammar: &mut Checked) -> Result<()> {
+    for line in rt.lines(alloc) {
+        answer_line(rt, alloc, grammar, line?.as_str())?;
+    }
+    Ok(())
 }
 
 fn main(rt: HostRuntime) -> Result<()> {
     let alloc = rt.alloc();
     let mut grammar = checked_of(alloc, "grammar G; a : 'a' ;", None)?;
-    for line in rt.lines(alloc) {
-        grammar = answer_line(&rt, alloc, grammar, line?.as_str())?;
-    }
-    Ok(())
+    answer_lines(&rt, alloc, &mut grammar)
 }

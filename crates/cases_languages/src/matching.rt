@@ -10,8 +10,9 @@ use std::alloc::Global;
 fn parts(alloc: Global, text: &str) -> Result<(Grammar, String)> {
     let (rules, rest) = text.split_once("=>").unwrap_or((text, ""));
     let spelled = format!(in alloc; "grammar G; {rules}")?;
+    let rest = String::from_str(alloc, rest)?;
     match read_grammar(alloc, spelled.as_bytes()) {
-        Ok(grammar) => Ok((grammar, String::from_str(alloc, rest)?)),
+        Ok(grammar) => Ok((grammar, rest)),
         Err(fault) => bail!("{fault}"),
     }
 }
@@ -24,24 +25,39 @@ fn first_rule(grammar: &Grammar) -> Result<&LexAlts> {
     }
 }
 
+/// Whether the alternatives match the text.
+fn alts_answer(alloc: Global, grammar: &Grammar, alts: &LexAlts, text: &str) -> Result<String> {
+    let matched = matches_rule(alloc, grammar, alts, text)?;
+    Ok(matched.to_string(alloc)?)
+}
+
+/// Whether the first rule of the grammar matches the text.
+fn rule_answer(alloc: Global, grammar: &Grammar, text: &str) -> Result<String> {
+    alts_answer(alloc, grammar, first_rule(grammar)?, text)
+}
+
 /// Whether the first rule matches the text.
 pub(crate) fn matched_shown(alloc: Global, text: &str) -> Result<String> {
     let (grammar, text) = parts(alloc, text)?;
-    let matched = matches_rule(alloc, &grammar, first_rule(&grammar)?, text.as_str())?;
-    Ok(matched.to_string(alloc)?)
+    rule_answer(alloc, &grammar, text.as_str())
+}
+
+/// Whether the first term of the grammar's first rule matches the text.
+fn term_answer(alloc: Global, grammar: &Grammar, text: &str) -> Result<String> {
+    let term = match first_rule(grammar)?.items.get(0) {
+        Some(terms) => terms.items.get(0),
+        None => None,
+    };
+    match term {
+        Some(term) => Ok(matches(alloc, grammar, term, text)?.to_string(alloc)?),
+        None => bail!("there is no term"),
+    }
 }
 
 /// Whether the first term of the first rule matches the text.
 pub(crate) fn term_shown(alloc: Global, text: &str) -> Result<String> {
     let (grammar, text) = parts(alloc, text)?;
-    let term = match first_rule(&grammar)?.items.get(0) {
-        Some(terms) => terms.items.get(0),
-        None => None,
-    };
-    match term {
-        Some(term) => Ok(matches(alloc, &grammar, term, text.as_str())?.to_string(alloc)?),
-        None => bail!("there is no term"),
-    }
+    term_answer(alloc, &grammar, text.as_str())
 }
 
 /// Whether no alternatives match the text, in a grammar without rules.
@@ -52,6 +68,5 @@ pub(crate) fn nothing_shown(alloc: Global, text: &str) -> Result<String> {
         rules: Vec::new(alloc),
     };
     let items = Vec::new(alloc);
-    let matched = matches_rule(alloc, &grammar, &LexAlts { items }, text)?;
-    Ok(matched.to_string(alloc)?)
+    alts_answer(alloc, &grammar, &LexAlts { items }, text)
 }

@@ -64,26 +64,42 @@ fn sets_text(alloc: Global, sets: &KindSets) -> Result<String> {
     Ok(out)
 }
 
-/// The sets of the grammar's normal form, and that their copy has the same ones.
-pub(crate) fn sets_shown(alloc: Global, checked: &Checked) -> Result<String> {
-    let normal = normalise(alloc, checked)?;
-    let text = sets_text(alloc, normal.sets())?;
-    let copied = sets_text(alloc, &normal.sets().copy(alloc)?)?;
+/// The sets, and that their copy has the same ones.
+fn copied_text(alloc: Global, sets: &KindSets) -> Result<String> {
+    let text = sets_text(alloc, sets)?;
+    let copied = sets_text(alloc, &sets.copy(alloc)?)?;
     if text.as_str() != copied.as_str() {
         return Ok(String::from_str(alloc, "the copy has others")?);
     }
     Ok(text)
 }
 
-/// What the sets of the grammar's normal form lack of the kinds in the text.
-pub(crate) fn lacking_shown(alloc: Global, checked: &Checked, text: &str) -> Result<String> {
+/// The sets of the grammar's normal form, and that their copy has the same ones.
+pub(crate) fn sets_shown(alloc: Global, checked: &Checked) -> Result<String> {
     let normal = normalise(alloc, checked)?;
-    let lists = normal.sets().missing_of(alloc, &numbers(alloc, text)?)?;
+    copied_text(alloc, normal.sets())
+}
+
+/// The lists of what sets lack, one after another.
+fn lists_text(alloc: Global, lists: &[Vec<u32>]) -> Result<String> {
     let mut out = String::new(alloc);
-    for list in lists.iter() {
+    for list in lists {
         out.push_str("lacks")?;
         add_numbers(alloc, list, &mut out)?;
         out.push_str("; ")?;
     }
     Ok(out)
+}
+
+/// What the sets lack of the kinds.
+fn lacking_text(alloc: Global, sets: &KindSets, kinds: &[u32]) -> Result<String> {
+    let lists = sets.missing_of(alloc, kinds)?;
+    lists_text(alloc, &lists)
+}
+
+/// What the sets of the grammar's normal form lack of the kinds in the text.
+pub(crate) fn lacking_shown(alloc: Global, checked: &Checked, text: &str) -> Result<String> {
+    let kinds = numbers(alloc, text)?;
+    let normal = normalise(alloc, checked)?;
+    lacking_text(alloc, normal.sets(), &kinds)
 }

@@ -49,19 +49,29 @@ fn language_named(rt: &HostRuntime, alloc: Global, name: &str) -> Result<Languag
     }
 }
 
+/// Prints the line, and then takes the grammar that it names, or prints the answer to its question.
+fn answer_line(rt: &HostRuntime, alloc: Global, language: &mut Language, line: &str) -> Result<()> {
+    println!(rt; "{line}")?;
+    let (question, text) = line.split_once(' ').unwrap_or((line, ""));
+    if question == "grammar" {
+        *language = language_named(rt, alloc, text)?;
+        return Ok(());
+    }
+    let answer = answer(rt, alloc, language, question, text)?;
+    println!(rt; "    {answer}")?;
+    Ok(())
+}
+
+/// Answers the lines of the input, one after another.
+fn answer_lines(rt: &HostRuntime, alloc: Global, language: &mut Language) -> Result<()> {
+    for line in rt.lines(alloc) {
+        answer_line(rt, alloc, language, line?.as_str())?;
+    }
+    Ok(())
+}
+
 fn main(rt: HostRuntime) -> Result<()> {
     let alloc = rt.alloc();
     let mut language = Language::new(alloc, "grammar G; a : 'a' ;")?;
-    for line in rt.lines(alloc) {
-        let line = line?;
-        let (question, text) = line.as_str().split_once(' ').unwrap_or((line.as_str(), ""));
-        if question == "grammar" {
-            language = language_named(&rt, alloc, text)?;
-            println!(rt; "{line}")?;
-        } else {
-            let answer = answer(&rt, alloc, &language, question, text)?;
-            println!(rt; "{line}\n    {answer}")?;
-        }
-    }
-    Ok(())
+    answer_lines(&rt, alloc, &mut language)
 }

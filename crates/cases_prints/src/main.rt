@@ -5,6 +5,7 @@
 ghost use Rattle.std.specs.Prelude.{IfOk, map};
 ghost use Rattle.std.specs.Str.{chars};
 ghost use Rattle.lexer.specs.Tokens.{HasTokens, token_of};
+ghost use Rattle.token_print.specs.Kept.{AreKept};
 
 use anyhow::{Result, bail};
 use lexer::{Lexer, Tokens};
@@ -58,6 +59,15 @@ const COMMENTED_CASES: [Case; 2] = [
 
 const HASHES_CASES: [Case; 1] = [("a-q#aq", &[0, 2])];
 
+/// The grammars, each with its cases.
+const GRAMMARS: [(&str, &[Case]); 5] = [
+    (STATEMENTS, &STATEMENT_CASES),
+    (JOINED, &JOINED_CASES),
+    (SPACED, &SPACED_CASES),
+    (COMMENTED, &COMMENTED_CASES),
+    (HASHES, &HASHES_CASES),
+];
+
 /// The tokens of the text, which has fewer than 2^32 bytes.
 fn tokens_of(lexer: &Lexer, text: &str) -> Result<Tokens>
     ensures { IfOk result (λ tokens. HasTokens lexer.now.grammar (chars text.now) (map token_of tokens.items.items)) }
@@ -71,42 +81,84 @@ fn tokens_of(lexer: &Lexer, text: &str) -> Result<Tokens>
     }
 }
 
+/// A text of the kept tokens, and whether it keeps them.
+fn text_shown(
+    alloc: Global,
+    lexer: &Lexer,
+    start: &str,
+    tokens: &Tokens,
+    kept: &[u32],
+    text: &[u8],
+) -> Result<String>
+    requires tokens { HasTokens lexer.now.grammar (chars start.now) (map token_of tokens.now.items.items) }
+    requires kept { AreKept (map token_of tokens.now.items.items) kept.now }
+{
+    if text.len() > u32::MAX as usize {
+        bail!("too long");
+    }
+    let keeps = keeps_tokens(start, tokens, lexer, kept, text)?;
+    let text = str::from_utf8(text)?;
+    Ok(format!(in alloc; "{text:?} {keeps}")?)
+}
+
+/// The text of the kept tokens in the style, and whether it keeps them.
+fn kept_shown(
+    alloc: Global,
+    lexer: &Lexer,
+    start: &str,
+    tokens: &Tokens,
+    kept: &[u32],
+    style: Style,
+) -> Result<String>
+    requires { HasTokens lexer.now.grammar (chars start.now) (map token_of tokens.now.items.items) }
+{
+    if !are_kept(tokens, kept) {
+        bail!("no such tokens: {kept:?}");
+    }
+    let text = print(alloc, start, tokens, lexer, kept, style)?;
+    text_shown(alloc, lexer, start, tokens, kept, &text)
+}
+
 /// Prints the text of the case in the style, and whether it keeps the tokens.
 fn show(rt: &impl Print, alloc: Global, lexer: &Lexer, case: Case, style: Style) -> Result<()> {
     let (start, kept) = case;
     let tokens = tokens_of(lexer, start)?;
-    if !are_kept(&tokens, kept) {
-        bail!("no such tokens: {kept:?}");
-    }
-    let text = print(alloc, start, &tokens, lexer, kept, style)?;
-    if text.len() > u32::MAX as usize {
-        bail!("too long");
-    }
-    let keeps = keeps_tokens(start, &tokens, lexer, kept, &text)?;
-    let text = str::from_utf8(&text)?;
-    println!(rt; "{style:?} {text:?} {keeps}")?;
+    let shown = kept_shown(alloc, lexer, start, &tokens, kept, style)?;
+    println!(rt; "{style:?} {shown}")?;
     Ok(())
 }
 
 /// Prints the texts of the cases, each in both styles.
-fn show_all(rt: &impl Print, alloc: Global, grammar: &str, cases: &[Case]) -> Result<()> {
-    let grammar = match checked(alloc, grammar, None) {
-        Ok(grammar) => grammar,
-        Err(refused) => bail!("refused: {refused:?}"),
-    };
-    let lexer = Lexer::build(alloc, &grammar)?;
+fn show_cases(rt: &impl Print, alloc: Global, lexer: &Lexer, cases: &[Case]) -> Result<()> {
     for case in cases {
-        show(rt, alloc, &lexer, *case, Style::AsWas)?;
-        show(rt, alloc, &lexer, *case, Style::Squeezed)?;
+        show(rt, alloc, lexer, *case, Style::AsWas)?;
+        show(rt, alloc, lexer, *case, Style::Squeezed)?;
+    }
+    Ok(())
+}
+
+/// The lexer of the grammar that the text spells.
+fn lexer_of(alloc: Global, grammar: &str) -> Result<Lexer> {
+    match checked(alloc, grammar, None) {
+        Ok(grammar) => Ok(Lexer::build(alloc, &grammar)?),
+        Err(refused) => bail!("refused: {refused:?}"),
+    }
+}
+
+/// The same by the grammar that a text spells.
+fn show_by(rt: &impl Print, alloc: Global, grammar: &str, cases: &[Case]) -> Result<()> {
+    let lexer = lexer_of(alloc, grammar)?;
+    show_cases(rt, alloc, &lexer, cases)
+}
+
+/// Prints the texts of all cases.
+fn show_all(rt: &impl Print, alloc: Global) -> Result<()> {
+    for &(grammar, cases) in &GRAMMARS {
+        show_by(rt, alloc, grammar, cases)?;
     }
     Ok(())
 }
 
 fn main(rt: HostRuntime) -> Result<()> {
-    let alloc = rt.alloc();
-    show_all(&rt, alloc, STATEMENTS, &STATEMENT_CASES)?;
-    show_all(&rt, alloc, JOINED, &JOINED_CASES)?;
-    show_all(&rt, alloc, SPACED, &SPACED_CASES)?;
-    show_all(&rt, alloc, COMMENTED, &COMMENTED_CASES)?;
-    show_all(&rt, alloc, HASHES, &HASHES_CASES)
+    show_all(&rt, rt.alloc())
 }

@@ -116,12 +116,12 @@ fn derived_lists(alloc: Global, language: &Language, lists: &[Vec<u32>]) -> Resu
     Ok(derived)
 }
 
-/// Compares the answers for all lists up to the lengths, and says how many there are.
-pub(crate) fn compared(alloc: Global, grammar: &str, lengths: Lengths) -> Result<String> {
-    let language = language_of(alloc, grammar)?;
+/// Compares the answers for all lists of the language's kinds up to the lengths, and says how many there
+/// are.
+fn compared_by(alloc: Global, language: &Language, lengths: Lengths) -> Result<String> {
     let kinds = language.checked.kinds().len();
     let lists = lists_up_to(alloc, kinds, lengths.trees)?;
-    let derived = derived_lists(alloc, &language, &lists)?;
+    let derived = derived_lists(alloc, language, &lists)?;
     let short = lists_up_to(alloc, kinds, lengths.beginnings)?;
     let plain = Derived {
         alloc,
@@ -136,4 +136,10 @@ pub(crate) fn compared(alloc: Global, grammar: &str, lengths: Lengths) -> Result
         lists.len(),
         short.len()
     )?)
+}
+
+/// The same for the grammar that a text spells.
+pub(crate) fn compared(alloc: Global, grammar: &str, lengths: Lengths) -> Result<String> {
+    let language = language_of(alloc, grammar)?;
+    compared_by(alloc, &language, lengths)
 }

@@ -19,23 +19,38 @@ mod prefixes;
 
 use crate::compare::{Lengths, compared};
 use anyhow::{Result, bail};
+use std::alloc::Global;
 
-fn main(rt: HostRuntime) -> Result<()> {
-    let alloc = rt.alloc();
+/// What is answered to a line.
+fn answer(alloc: Global, line: &str) -> Result<String> {
+    let Some((trees, rest)) = line.split_once(' ') else {
+        bail!("give two lengths and a grammar");
+    };
+    let Some((beginnings, grammar)) = rest.split_once(' ') else {
+        bail!("give two lengths and a grammar");
+    };
+    let lengths = Lengths {
+        trees: trees.parse::<u32>()?,
+        beginnings: beginnings.parse::<u32>()?,
+    };
+    compared(alloc, grammar, lengths)
+}
+
+/// Prints the line, and then the answer.
+fn answer_line(rt: &HostRuntime, alloc: Global, line: &str) -> Result<()> {
+    let answer = answer(alloc, line)?;
+    println!(rt; "{line}\n    {answer}")?;
+    Ok(())
+}
+
+/// Answers the lines of the input, one after another.
+fn answer_lines(rt: &HostRuntime, alloc: Global) -> Result<()> {
     for line in rt.lines(alloc) {
-        let line = line?;
-        let Some((trees, rest)) = line.as_str().split_once(' ') else {
-            bail!("give two lengths and a grammar");
-        };
-        let Some((beginnings, grammar)) = rest.split_once(' ') else {
-            bail!("give two lengths and a grammar");
-        };
-        let lengths = Lengths {
-            trees: trees.parse::<u32>()?,
-            beginnings: beginnings.parse::<u32>()?,
-        };
-        let answer = compared(alloc, grammar, lengths)?;
-        println!(rt; "{line}\n    {answer}")?;
+        answer_line(rt, alloc, line?.as_str())?;
     }
     Ok(())
+}
+
+fn main(rt: HostRuntime) -> Result<()> {
+    answer_lines(&rt, rt.alloc())
 }

@@ -82,19 +82,29 @@ fn answers_in(
     Ok(Some(exchanged(alloc, both.as_str(), '\n', '|')?))
 }
 
-/// What the text is reduced to in both modes.
-fn answers(alloc: Global, grammar: &str, seed: u64, text: &str) -> Result<Option<String>, Memory> {
-    let Ok(grammar) = checked(alloc, grammar, None) else {
+/// What the start is reduced to in both modes.
+fn answers_by(
+    alloc: Global,
+    grammar: &Checked,
+    start: &str,
+    seed: u64,
+) -> Result<Option<String>, Memory> {
+    let Some(perses) = answers_in(alloc, grammar, start, seed, Mode::Perses)? else {
         return Ok(None);
     };
-    let start = exchanged(alloc, text, '|', '\n')?;
-    let Some(perses) = answers_in(alloc, &grammar, start.as_str(), seed, Mode::Perses)? else {
-        return Ok(None);
-    };
-    let Some(hdd) = answers_in(alloc, &grammar, start.as_str(), seed, Mode::Hdd)? else {
+    let Some(hdd) = answers_in(alloc, grammar, start, seed, Mode::Hdd)? else {
         return Ok(None);
     };
     Ok(Some(format!(in alloc; "{perses}\n    hdd {hdd}")?))
+}
+
+/// What the text is reduced to in both modes by the grammar that another text spells.
+fn answers(alloc: Global, grammar: &str, seed: u64, text: &str) -> Result<Option<String>, Memory> {
+    let start = exchanged(alloc, text, '|', '\n')?;
+    match checked(alloc, grammar, None) {
+        Ok(grammar) => answers_by(alloc, &grammar, start.as_str(), seed),
+        Err(_) => Ok(None),
+    }
 }
 
 /// What is found of the case in a line; None where it is none.
@@ -111,14 +121,23 @@ fn answer_of(alloc: Global, line: &str) -> Result<Option<String>, Memory> {
     }
 }
 
-fn main(rt: HostRuntime) -> Result<()> {
-    let alloc = rt.alloc();
-    for line in rt.lines(alloc) {
-        let line = line?;
-        match answer_of(alloc, line.as_str())? {
-            Some(answer) => println!(rt; "{line}\n    {answer}")?,
-            None => println!(rt; "{line}\n    no case")?,
-        }
+/// Prints the line, and then what is found of its case.
+fn answer_line(rt: &HostRuntime, alloc: Global, line: &str) -> Result<()> {
+    match answer_of(alloc, line)? {
+        Some(answer) => println!(rt; "{line}\n    {answer}")?,
+        None => println!(rt; "{line}\n    no case")?,
     }
     Ok(())
+}
+
+/// Answers the lines of the input, one after another.
+fn answer_lines(rt: &HostRuntime, alloc: Global) -> Result<()> {
+    for line in rt.lines(alloc) {
+        answer_line(rt, alloc, line?.as_str())?;
+    }
+    Ok(())
+}
+
+fn main(rt: HostRuntime) -> Result<()> {
+    answer_lines(&rt, rt.alloc())
 }
