@@ -1,1 +1,4 @@
+mod CallLemmas
 mod Contents
+pub mod Lent
+mod Starts

@@ -1,8 +1,9 @@
 pub use Rattle.faults.specs.Count
+pub use Rattle.faults.specs.Memory
 pub use Rattle.std.specs.IoError
 pub mod Calls
-pub mod Machine
 pub mod Files
+pub mod FileCalls
 pub mod MemFiles
 pub mod Sink
 pub mod MemSink

@@ -7,7 +7,7 @@ use crate::files::{FileFault, Files, WriteFault};
 use std::alloc::Global;
 use std::marker::Model;
 
-/// Files in memory, some calls of which can be made to fail.
+/// Files in memory, some calls of which can be made to fail. Which calls were made is shown by `LoggedFiles` over them.
 #[derive(Drop)]
 pub struct MemFiles {
     alloc: Global,
@@ -59,7 +59,11 @@ impl MemFiles {
 }
 
 impl Files for MemFiles {
+    ghost use Rattle.std.specs.Prelude.{None};
+
     ghost content = { λ m name. Some (content_of m.entries name) };
+
+    ghost calls = { λ _. None };
 
     ghost faults = { λ m. m.calls.faults };
 

@@ -18,6 +18,8 @@ impl Sink for NullSink {
 
     ghost put_so_far = { λ _. None };
 
+    ghost puts = { λ _. None };
+
     ghost faults = { λ _. 0 };
 
     fn open(&mut self, _name: &str) -> Result<(), OpenFault>

@@ -80,6 +80,8 @@ impl<R: std::rt::Files + Print> Sink for StreamSink<R> {
 
     ghost put_so_far = { λ _. None };
 
+    ghost puts = { λ _. None };
+
     ghost faults = { λ s. s };
 
     fn open(&mut self, name: &str) -> Result<(), OpenFault>
@@ -91,10 +93,10 @@ impl<R: std::rt::Files + Print> Sink for StreamSink<R> {
                 self.target = Target::File(file);
                 Ok(())
             }
-            Err(error) if keep_failure(&mut self.faults, &mut self.reason, error) => {
-                Err(OpenFault::Failed)
-            }
-            Err(_) => Err(OpenFault::Memory),
+            Err(error) => match keep_failure(&mut self.faults, &mut self.reason, error) {
+                Some(memory) => Err(OpenFault::Memory(memory)),
+                None => Err(OpenFault::Failed),
+            },
         }
     }
 

@@ -45,6 +45,8 @@ impl<J: Drop> CountedJournal<J> {
 impl<J: Sink + Drop> Sink for CountedJournal<J> {
     ghost put_so_far = { J.put_so_far };
 
+    ghost puts = { J.puts };
+
     ghost faults = { J.faults };
 
     fn open(&mut self, name: &str) -> Result<(), OpenFault> {

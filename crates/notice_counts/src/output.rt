@@ -38,6 +38,8 @@ impl<O: Drop, E: Drop> ScreenOutput<O, E> {
 impl<O: Sink + Drop, E: Print + Drop> Sink for ScreenOutput<O, E> {
     ghost put_so_far = { O.put_so_far };
 
+    ghost puts = { O.puts };
+
     ghost faults = { O.faults };
 
     fn open(&mut self, name: &str) -> Result<(), OpenFault> {

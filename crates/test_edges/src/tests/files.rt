@@ -2,7 +2,7 @@
 
 use super::held::holds;
 use super::machine::SlowMachine;
-use edge_io::{DiskFiles, FileFault, Files, MemFiles, WriteFault};
+use edge_io::{DiskFiles, FileAction, FileFault, Files, LoggedFiles, MemFiles, WriteFault};
 use std::alloc::Global;
 use std::fs;
 use std::test::Fail;
@@ -127,6 +127,40 @@ fn files_in_memory_answer_and_hold_what_they_are_asked_for(rt: HostRuntime) -> R
     Ok(())
 }
 
+/// A call that was kept: the file's name, what was asked of it, and whether it failed.
+#[derive(Clone, Copy)]
+struct Kept(&'static str, FileAction, bool);
+
+/// What is kept of the calls of the second case.
+const KEPT: [Kept; 4] = [
+    Kept("a", FileAction::Read, false),
+    Kept("a", FileAction::Read, true),
+    Kept("a", FileAction::Write, true),
+    Kept("a", FileAction::Read, false),
+];
+
+/// Whether exactly these calls were kept, in their order.
+fn are_kept(files: &LoggedFiles<MemFiles>, wanted: &[Kept]) -> bool {
+    if files.calls().len() != wanted.len() {
+        return false;
+    }
+    for (call, Kept(name, action, failed)) in files.calls().iter().zip(wanted) {
+        if call.name() != *name || call.action() != *action || call.failed() != *failed {
+            return false;
+        }
+    }
+    true
+}
+
+#[test]
+fn logged_files_keep_their_calls(rt: HostRuntime) -> Result<(), Fail> {
+    let mut files = LoggedFiles::new(rt.alloc(), files_of(rt.alloc(), &CASES[1])?);
+    assert_eq!(rt; first_other(&mut files, CASES[1].calls), None);
+    assert!(rt; are_kept(&files, &KEPT));
+    assert!(rt; has(files.inner(), CASES[1].contents));
+    Ok(())
+}
+
 /// Every write of a full device fails that has a byte.
 const ON_THE_MACHINE: [Call; 8] = [
     Call::Write("files/file", "old and long", Ok(())),
@@ -190,29 +224,53 @@ fn first_other_reason(files: &mut DiskFiles<HostRuntime>) -> Option<usize> {
     None
 }
 
+/// That number; whether the first text of the file is kept that was read and written; and whether nothing is
+/// kept of the missing one.
+fn kept_by_files(rt: HostRuntime) -> (Option<usize>, bool, bool) {
+    let alloc = rt.alloc();
+    let mut files = DiskFiles::new(rt, alloc);
+    let other = first_other_reason(&mut files);
+    let keeps_first = files.first_read("reasons/file") == Some(b"first");
+    (
+        other,
+        keeps_first,
+        files.first_read("reasons/missing").is_none(),
+    )
+}
+
 #[test]
 fn the_machine_keeps_the_last_reason_and_what_was_read_first(rt: HostRuntime) -> Result<(), Fail> {
     fs::create_dir_all(&rt, "reasons")?;
-    let mut files = DiskFiles::new(rt.clone()?, rt.alloc());
-    let other = first_other_reason(&mut files);
+    let kept = kept_by_files(rt.clone()?);
     fs::remove_dir_all(&rt, "reasons")?;
-    assert_eq!(rt; other, None);
-    assert!(rt; files.first_read("reasons/file") == Some(b"first"));
-    assert!(rt; files.first_read("reasons/missing").is_none());
+    assert_eq!(rt; kept, (None, true, true));
     Ok(())
+}
+
+/// Whether a file of so many bytes is written, and read whole.
+fn goes_through(files: &mut DiskFiles<HostRuntime>, bytes: &[u8]) -> (bool, bool) {
+    let is_written = files.write("long/file", bytes).is_ok();
+    let read = files.read("long/file", 2_000_000);
+    (
+        is_written,
+        read.is_ok_and(|found| found.len() == bytes.len()),
+    )
+}
+
+/// Whether a long file goes through, and nothing of it is kept.
+fn long_file(rt: HostRuntime, bytes: &[u8]) -> ((bool, bool), bool) {
+    let alloc = rt.alloc();
+    let mut files = DiskFiles::new(rt, alloc);
+    let goes = goes_through(&mut files, bytes);
+    (goes, files.first_read("long/file").is_none())
 }
 
 #[test]
 fn the_machine_keeps_no_long_file(rt: HostRuntime) -> Result<(), Fail> {
     fs::create_dir_all(&rt, "long")?;
-    let alloc = rt.alloc();
-    let bytes = vec![in alloc; b'x'; 1_048_577]?;
-    let mut files = DiskFiles::new(rt.clone()?, alloc);
-    let is_written = files.write("long/file", bytes.as_slice()).is_ok();
-    let read = files.read("long/file", 2_000_000);
+    let bytes = vec![in rt.alloc(); b'x'; 1_048_577]?;
+    let kept = long_file(rt.clone()?, &bytes);
     fs::remove_dir_all(&rt, "long")?;
-    assert!(rt; is_written);
-    assert!(rt; read.is_ok_and(|found| found.len() == 1_048_577));
-    assert!(rt; files.first_read("long/file").is_none());
+    assert_eq!(rt; kept, ((true, true), true));
     Ok(())
 }
