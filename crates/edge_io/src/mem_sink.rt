@@ -1,6 +1,7 @@
-ghost use Rattle.std.specs.Prelude.{◌≡◌, ◌≤◌, ◌⊎◌, ◌↔◌, IfOk, OnOk, OnErr, IsErr, IsOkUnless};
+ghost use Rattle.std.specs.Prelude.{◌≡◌, ◌≤◌, ◌⊎◌, ◌↔◌, IfOk, OnOk, OnErr, IsErr, IsOkUnless, IsTrue};
+ghost use Rattle.faults.specs.Memory.{ran_out};
 ghost use Rattle.edge_io.specs.Calls.{IsNextToFail};
-ghost use Rattle.edge_io.specs.MemSink.{empty_sink, IsTooBig, after_put, after_failed_put};
+ghost use Rattle.edge_io.specs.MemSink.{empty_sink, IsTooBig, after_put, after_failed_put, after_start};
 ghost use Rattle.edge_io.specs.Sink.{empty_put};
 
 use crate::calls::Calls;
@@ -69,6 +70,32 @@ impl MemSink {
     {
         self.calls.faults()
     }
+
+    /// Whether the next put is one of those that are to fail.
+    pub(crate) fn is_next_to_fail(&self) -> bool
+        ensures { IsTrue result ↔ IsNextToFail self.now.calls }
+    {
+        self.calls.is_next_to_fail()
+    }
+
+    /// Adds the first `most` bytes of the piece, or fewer where the piece or the capacity ends before. It
+    /// counts as no put.
+    #[tactic(auto, using(crate::proofs::Starts::take_min))]
+    pub(crate) fn add_start(&mut self, piece: &[u8], most: u64)
+        ensures { self.new ≡ after_start most piece.now self.old }
+    {
+        let left = self.capacity - self.bytes.len() as u64;
+        let count = most.min(left).min(piece.len() as u64) as usize;
+        self.bytes.extend_from_slice(&piece[..count]).unwrap();
+    }
+
+    /// Counts a put that failed.
+    pub(crate) fn count_fault(&mut self)
+        ensures counted { self.new ≡ after_failed_put self.old }
+        ensures never_falls { self.old.calls.faults ≤ self.new.calls.faults }
+    {
+        self.calls.count_fault();
+    }
 }
 
 impl Sink for MemSink {
@@ -76,10 +103,12 @@ impl Sink for MemSink {
 
     ghost put_so_far = { λ s. Some s.put };
 
+    ghost puts = { λ s. Some s.calls.made };
+
     ghost faults = { λ s. s.calls.faults };
 
     fn open(&mut self, name: &str) -> Result<(), OpenFault>
-        ensures only_memory { IsOkUnless result OpenFault.Memory }
+        ensures only_memory { IsOkUnless result (OpenFault.Memory ran_out) }
         ensures ok { OnOk result (self.new ≡ record self.old { put = empty_put name.now }) }
         ensures err { OnErr result (self.new ≡ self.old) }
     {
@@ -96,7 +125,7 @@ impl Sink for MemSink {
     {
         let free = self.capacity - self.bytes.len() as u64;
         if self.calls.is_next_to_fail() || piece.len() as u64 > free {
-            self.calls.count_fault();
+            self.count_fault();
             return Err(SinkFault::Failed);
         }
         self.calls.count_call();

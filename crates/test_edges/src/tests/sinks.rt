@@ -2,7 +2,7 @@
 
 use super::held::holds;
 use super::machine::SlowMachine;
-use edge_io::{MemSink, NullSink, OpenFault, Sink, SinkFault, StreamSink};
+use edge_io::{CutSink, MemSink, NullSink, OpenFault, Sink, SinkFault, StreamSink};
 use std::alloc::Global;
 use std::fs;
 use std::test::Fail;
@@ -81,6 +81,11 @@ const FAILING: [Step; 1] = [Step {
     faults: 2,
 }];
 
+/// Whether these bytes, this name and this number of faults are what the step leaves.
+fn is_left(step: &Step, bytes: &[u8], name: &str, faults: u64) -> bool {
+    bytes == step.text.as_bytes() && name == step.name && faults == step.faults
+}
+
 /// The number, from 0, of the first step that isn't so in a sink with this capacity and these failing
 /// puts, counted from 1.
 fn first_other_step(
@@ -92,9 +97,7 @@ fn first_other_step(
     let mut sink = MemSink::new(alloc, capacity, Vec::from_slice(alloc, failing)?)?;
     for (number, step) in steps.iter().enumerate() {
         if first_other(&mut sink, step.calls).is_some()
-            || sink.bytes() != step.text.as_bytes()
-            || sink.name() != step.name
-            || sink.faults() != step.faults
+            || !is_left(step, sink.bytes(), sink.name(), sink.faults())
         {
             return Ok(Some(number));
         }
@@ -109,6 +112,71 @@ fn a_sink_in_memory_takes_what_fits_and_fails_as_listed(rt: HostRuntime) -> Resu
         first_other_step(rt.alloc(), 9, &[3, 4], &FAILING)?,
     );
     assert_eq!(rt; others, (None, None));
+    Ok(())
+}
+
+/// Sinks whose puts 1 and 3 fail: how many bytes each takes, how many of a piece whose put fails, and what they
+/// are asked. A part ends where its piece does, or where the sink is full.
+const CUT: [(u64, u64, Step); 3] = [
+    (
+        9,
+        2,
+        Step {
+            calls: &[
+                Call::Put("abc", Err(SinkFault::Failed)),
+                Call::Put("d", Ok(())),
+                Call::Put("e", Err(SinkFault::Failed)),
+            ],
+            text: "abde",
+            name: "",
+            faults: 2,
+        },
+    ),
+    (
+        4,
+        3,
+        Step {
+            calls: &[
+                Call::Put("ab", Err(SinkFault::Failed)),
+                Call::Put("c", Ok(())),
+                Call::Put("def", Err(SinkFault::Failed)),
+                Call::Put("x", Err(SinkFault::Failed)),
+                Call::Put("", Ok(())),
+            ],
+            text: "abcd",
+            name: "",
+            faults: 3,
+        },
+    ),
+    (
+        9,
+        0,
+        Step {
+            calls: &[
+                Call::Put("ab", Err(SinkFault::Failed)),
+                Call::Open("n", Ok(())),
+                Call::Put("abc", Ok(())),
+                Call::Put("d", Err(SinkFault::Failed)),
+            ],
+            text: "abc",
+            name: "n",
+            faults: 2,
+        },
+    ),
+];
+
+/// Whether such a sink goes so.
+fn is_cut_so(alloc: Global, capacity: u64, part: u64, step: &Step) -> Result<bool, Fail> {
+    let mut sink = CutSink::new(alloc, capacity, Vec::from_slice(alloc, &[1, 3])?, part)?;
+    let is_answered = first_other(&mut sink, step.calls).is_none();
+    Ok(is_answered && is_left(step, sink.bytes(), sink.name(), sink.faults()))
+}
+
+#[test]
+fn a_put_that_is_cut_off_adds_a_part_of_its_piece(rt: HostRuntime) -> Result<(), Fail> {
+    for (capacity, part, step) in CUT.iter() {
+        assert!(rt; is_cut_so(rt.alloc(), *capacity, *part, step)?);
+    }
     Ok(())
 }
 
@@ -161,15 +229,26 @@ fn a_stream_puts_into_what_was_opened_last(rt: HostRuntime) -> Result<(), Fail> 
     Ok(())
 }
 
+/// The machine's number of the last failure of the sink.
+fn last_reason(sink: &StreamSink<HostRuntime>) -> Option<i32> {
+    sink.reason().and_then(|error| error.raw_os_error())
+}
+
+/// Whether there is no reason at first, a file can't be opened, and another one can't be written; and that
+/// number after each of these two failures.
+fn reasons_of(rt: HostRuntime) -> (bool, [Option<i32>; 2]) {
+    let mut sink = StreamSink::file(rt);
+    let is_quiet = sink.reason().is_none();
+    let is_refused = sink.open("/dev/null/below").is_err();
+    let opened = last_reason(&sink);
+    let is_full = sink.open("/dev/full").is_ok() && sink.put(b"x").is_err();
+    let put = last_reason(&sink);
+    (is_quiet && is_refused && is_full, [opened, put])
+}
+
 #[test]
 fn a_stream_keeps_the_last_reason(rt: HostRuntime) -> Result<(), Fail> {
-    let mut sink = StreamSink::file(rt.clone()?);
-    assert!(rt; sink.reason().is_none());
-    assert!(rt; sink.open("/dev/null/below").is_err());
-    let opened = sink.reason().and_then(|error| error.raw_os_error());
-    assert!(rt; sink.open("/dev/full").is_ok());
-    assert!(rt; sink.put(b"x").is_err());
-    let put = sink.reason().and_then(|error| error.raw_os_error());
-    assert_eq!(rt; (opened, put), (Some(20), Some(28)));
+    let wanted = [Some(20), Some(28)];
+    assert_eq!(rt; reasons_of(rt.clone()?), (true, wanted));
     Ok(())
 }
