@@ -3,6 +3,7 @@ ghost use Rattle.edge_io.specs.Calls.{CountsFault};
 
 use crate::files::{FileFault, Files, WriteFault};
 use crate::machine::{keep_failure, write_whole};
+use crate::replacing::replace;
 use std::alloc::{AllocError, Global};
 use std::io::Read;
 use std::marker::Model;
@@ -19,7 +20,7 @@ struct FirstRead {
     bytes: Vec<u8>,
 }
 
-/// The files of the machine. Their content isn't visible to contracts, which see the count of their faults alone.
+/// The files of the machine. Their content and their calls aren't visible to contracts, which see the count of their faults alone.
 #[derive(Drop)]
 pub struct DiskFiles<R: std::rt::Files> {
     rt: R,
@@ -62,6 +63,35 @@ impl<R: std::rt::Files> DiskFiles<R> {
         let read = self.reads.iter().find(|read| read.name.as_str() == name)?;
         Some(read.bytes.as_slice())
     }
+
+    // Writes over what the file of this name has, or makes the file. `Memory` comes only before it is made; from
+    // then on an error is `Failed`.
+    fn write_in_place(&mut self, name: &str, bytes: &[u8]) -> Result<(), WriteFault>
+        ensures count { self.old ≤ self.new }
+        ensures faults { CountsFault (IsErrOf result WriteFault.Failed) self.old self.new }
+    {
+        let mut file = match fs::create(&self.rt, name) {
+            Ok(file) => file,
+            Err(error) => return self.failed_write(error),
+        };
+        if let Err(error) = write_whole(&mut file, bytes) {
+            self.faults = self.faults.saturating_add(1);
+            self.reason = Some(error);
+            return Err(WriteFault::Failed);
+        }
+        Ok(())
+    }
+
+    // Ends a write by this error, which came while the file was as before.
+    fn failed_write(&mut self, error: io::Error) -> Result<(), WriteFault>
+        ensures count { self.old ≤ self.new }
+        ensures faults { CountsFault (IsErrOf result WriteFault.Failed) self.old self.new }
+    {
+        match keep_failure(&mut self.faults, &mut self.reason, error) {
+            Some(memory) => Err(WriteFault::Memory(memory)),
+            None => Err(WriteFault::Failed),
+        }
+    }
 }
 
 // The file's first bytes, up to `most` of them.
@@ -96,6 +126,8 @@ impl<R: std::rt::Files> Files for DiskFiles<R> {
 
     ghost content = { λ _ _. None };
 
+    ghost calls = { λ _. None };
+
     ghost faults = { λ d. d };
 
     fn read(&mut self, name: &str, limit: u64) -> Result<Vec<u8>, FileFault>
@@ -112,30 +144,25 @@ impl<R: std::rt::Files> Files for DiskFiles<R> {
                 }
                 Ok(bytes)
             }
-            Err(error) if keep_failure(&mut self.faults, &mut self.reason, error) => {
-                Err(FileFault::Failed)
-            }
-            Err(_) => Err(FileFault::Memory),
+            Err(error) => match keep_failure(&mut self.faults, &mut self.reason, error) {
+                Some(memory) => Err(FileFault::Memory(memory)),
+                None => Err(FileFault::Failed),
+            },
         }
     }
 
-    /// `Memory` comes only before the file is made; from then on an error is `Failed`.
+    /// A new file takes the place of the old one, so that a crash leaves the old bytes or the new ones. In place
+    /// is written what is a link or no ordinary file, has several names, another owner or group than a new file,
+    /// or is where no new file can be made, synced or renamed, though there is space. Only then `Failed` leaves
+    /// anything but the old bytes.
     fn write(&mut self, name: &str, bytes: &[u8]) -> Result<(), WriteFault>
         ensures count { self.old ≤ self.new }
         ensures faults { CountsFault (IsErrOf result WriteFault.Failed) self.old self.new }
     {
-        let mut file = match fs::create(&self.rt, name) {
-            Ok(file) => file,
-            Err(error) if keep_failure(&mut self.faults, &mut self.reason, error) => {
-                return Err(WriteFault::Failed);
-            }
-            Err(_) => return Err(WriteFault::Memory),
-        };
-        if let Err(error) = write_whole(&mut file, bytes) {
-            self.faults = self.faults.saturating_add(1);
-            self.reason = Some(error);
-            return Err(WriteFault::Failed);
+        match replace(&self.rt, self.alloc, name, bytes) {
+            Ok(true) => Ok(()),
+            Ok(false) => self.write_in_place(name, bytes),
+            Err(error) => self.failed_write(error),
         }
-        Ok(())
     }
 }

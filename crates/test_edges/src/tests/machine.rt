@@ -1,29 +1,58 @@
-//! A machine that takes one byte at a time.
+//! A machine that takes one byte at a time, and on which a step fails where a file is replaced.
 
 use std::alloc::Allocator;
-use std::fs::{File, Metadata, OpenFile, OpenOptions};
-use std::io::{Read, Seek, SeekFrom, Write};
+use std::fs::{File, Metadata, OpenFile, OpenOptions, Permissions};
+use std::io::{ErrorKind, Read, Seek, SeekFrom, Write};
 use std::process::{Child, Command, Processes, Stdio};
 use std::rt::Files;
 use std::{fmt, io};
 
-/// The machine, but that its files and its standard output take one byte at a time.
+/// What is done where a file is replaced. A file that is opened only if it is new is the one that replaces.
+#[derive(Clone, Copy, Debug, PartialEq, Eq)]
+pub(crate) enum Step {
+    Make,
+    Permit,
+    Write,
+    Sync,
+    Rename,
+}
+
+/// A step that fails, and by what.
+#[derive(Clone, Copy, Debug, PartialEq, Eq)]
+pub(crate) struct Failure(pub(crate) Step, pub(crate) ErrorKind);
+
+/// The machine, but that its files and its standard output take one byte at a time, and that a step fails.
 #[derive(Drop)]
 pub(crate) struct SlowMachine {
     rt: HostRuntime,
+    fails: Option<Failure>,
 }
 
 impl SlowMachine {
-    /// The machine that `rt` reaches.
+    /// The machine that `rt` reaches, on which no step fails.
     pub(crate) fn new(rt: HostRuntime) -> SlowMachine {
-        SlowMachine { rt }
+        SlowMachine { rt, fails: None }
+    }
+
+    /// The same, but that a step fails so, if one is named.
+    pub(crate) fn failing(rt: HostRuntime, fails: Option<Failure>) -> SlowMachine {
+        SlowMachine { rt, fails }
     }
 }
 
-/// A file that takes one byte at a time.
+/// An error where this step is the one that fails.
+fn fail_at(fails: Option<Failure>, step: Step) -> io::Result<()> {
+    match fails {
+        Some(Failure(failing, kind)) if failing == step => Err(io::Error::from(kind)),
+        _ => Ok(()),
+    }
+}
+
+/// A file that takes one byte at a time, and on which a step fails.
 #[derive(Drop)]
 pub struct SlowFile {
     file: File,
+    fails: Option<Failure>,
 }
 
 impl Read for SlowFile {
@@ -34,6 +63,7 @@ impl Read for SlowFile {
 
 impl Write for SlowFile {
     fn write(&mut self, buf: &[u8]) -> io::Result<usize> {
+        fail_at(self.fails, Step::Write)?;
         self.file.write(&buf[..buf.len().min(1)])
     }
 
@@ -58,11 +88,17 @@ impl OpenFile for SlowFile {
     }
 
     fn sync_all(&self) -> io::Result<()> {
+        fail_at(self.fails, Step::Sync)?;
         self.file.sync_all()
     }
 
     fn sync_data(&self) -> io::Result<()> {
         self.file.sync_data()
+    }
+
+    fn set_permissions(&self, perm: Permissions) -> io::Result<()> {
+        fail_at(self.fails, Step::Permit)?;
+        self.file.set_permissions(perm)
     }
 }
 
@@ -72,8 +108,15 @@ impl Files for SlowMachine {
     type Dir = <HostRuntime as Files>::Dir;
 
     fn open_file(&self, how: &OpenOptions, path: &str) -> io::Result<SlowFile> {
+        let fails = if how.asks_create_new() {
+            self.fails
+        } else {
+            None
+        };
+        fail_at(fails, Step::Make)?;
         Ok(SlowFile {
             file: self.rt.open_file(how, path)?,
+            fails,
         })
     }
 
@@ -94,6 +137,7 @@ impl Files for SlowMachine {
     }
 
     fn rename(&self, from: &str, to: &str) -> io::Result<()> {
+        fail_at(self.fails, Step::Rename)?;
         self.rt.rename(from, to)
     }
 
