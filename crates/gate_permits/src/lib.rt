@@ -6,7 +6,7 @@
 //! that all workers read ([`Texts`]). So a claimed text is asked about:
 //!
 //! ```
-//! let token = texts.push_shown(rt, text).map_err(|_| Memory)?;
+//! let token = texts.push_shown(rt, text).map_err(|_| Memory::from(AllocError))?;
 //! let answer = match ask_once(&mut gate, &texts, Permit::new(claim, token)) {
 //!     Ok(answer) => answer,
 //!     Err(unasked) => return Err(unasked.spend().1),

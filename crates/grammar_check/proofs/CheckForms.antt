@@ -166,7 +166,7 @@ well_formed_has_no_fault G wanted start found well = at
     at (variant.EmptyLoop name) i h = well.no_empty_loop i h.1
     at (variant.LeftRecursion name) i h = well.no_left_recursion i h.1
     at (variant.TooManyRules count) i h = well.few_rules count h
-    at variant.Memory i h = h
+    at (variant.Memory _) i h = h
 
 pub no_fault_is_well_formed : NoFaultIsWellFormed
 no_fault_is_well_formed G wanted none = by (start_of G wanted) refl

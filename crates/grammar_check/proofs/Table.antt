@@ -2,6 +2,7 @@
 use Rattle.std.proofs.Common.{◌≡◌, inl, inr, ℕ, zero, suc, ◌<◌, List, [], Option, refl, sym, ap, ◌∙◌, subst, arith}
 use Rattle.std.proofs.lemmas.Bool.{cases_lt}
 use Rattle.std.proofs.lemmas.Option.{same_Some}
+use Rattle.faults.specs.Memory.{ran_out}
 use Rattle.grammar_tree.specs.Faults.{NoStart, used_name}
 use Rattle.grammar_tree.specs.Written.{WrittenGrammar}
 use Rattle.grammar_check_cycles.specs.First.{Nowhere}
@@ -26,7 +27,7 @@ fault_of (suc (suc (suc (suc (suc (suc (suc (suc zero)))))))) n c = NoBase n
 fault_of (suc (suc (suc (suc (suc (suc (suc (suc (suc zero))))))))) n c = EmptyLoop n
 fault_of (suc (suc (suc (suc (suc (suc (suc (suc (suc (suc zero)))))))))) n c = LeftRecursion n
 fault_of (suc (suc (suc (suc (suc (suc (suc (suc (suc (suc (suc zero))))))))))) n c = TooManyRulesFault c
-fault_of _ n c = Memory
+fault_of _ n c = Memory ran_out
 
 name_in : CheckFault → List ℕ
 name_in (TwoRules n) = n
@@ -40,7 +41,7 @@ name_in (NoBase n) = n
 name_in (EmptyLoop n) = n
 name_in (LeftRecursion n) = n
 name_in (TooManyRulesFault c) = []
-name_in Memory = []
+name_in (Memory _) = []
 
 count_in : CheckFault → ℕ
 count_in (TooManyRulesFault c) = c
@@ -59,7 +60,7 @@ remade (NoBase n) = refl
 remade (EmptyLoop n) = refl
 remade (LeftRecursion n) = refl
 remade (TooManyRulesFault c) = refl
-remade Memory = refl
+remade (Memory _) = refl
 
 in_row : (k : ℕ) (it : CheckFault) → row it ≡ k → it ≡ fault_of k (name_in it) (count_in it)
 in_row k it e = sym (remade it) ∙ ap (λ r. fault_of r (name_in it) (count_in it)) e
@@ -107,7 +108,7 @@ module _ (G : WrittenGrammar) (wanted : Option (List ℕ)) where
   none_at_all (EmptyLoop n) i lt h = omega (arith, lt)
   none_at_all (LeftRecursion n) i lt h = omega (arith, lt)
   none_at_all (TooManyRulesFault c) i lt h = omega (arith, lt)
-  none_at_all Memory i lt h = h
+  none_at_all (Memory _) i lt h = h
 
   -- the name of a fault is one, and so is its count
 

@@ -1,5 +1,6 @@
 -- The faults of a grammar in the order of their table, and the first of them that holds.
 use Rattle.std.specs.Prelude.{◌≡◌, ◌≢◌, ◌⊎◌, ◌<◌, ℕ, List, Option, Some}
+use Rattle.faults.specs.Memory.{ran_out}
 use Rattle.grammar_tree.specs.Faults as fault
 use Rattle.grammar_tree.specs.Written.{WrittenGrammar}
 use Rattle.grammar_check_faults.specs.Answer.{name_at}
@@ -20,7 +21,7 @@ row (NoBase name) = 8
 row (EmptyLoop name) = 9
 row (LeftRecursion name) = 10
 row (TooManyRules count) = 11
-row Memory = 12
+row (Memory _) = 12
 
 -- The rule at this index has this name.
 abbrev pub IsNamedAt : WrittenGrammar → ℕ → List ℕ → Type 0
@@ -40,7 +41,7 @@ HoldsAt G wanted i (NoBase name) = IsNamedAt G i name × fault.NoBase G i
 HoldsAt G wanted i (EmptyLoop name) = IsNamedAt G i name × fault.EmptyLoop G i
 HoldsAt G wanted i (LeftRecursion name) = IsNamedAt G i name × fault.LeftRecursion G i
 HoldsAt G wanted i (TooManyRules count) = fault.TooManyRules G count
-HoldsAt G wanted i Memory = ⊥
+HoldsAt G wanted i (Memory _) = ⊥
 
 -- The fault holds, and none holds of an earlier row; nor does one of its row at an earlier index.
 pub record IsFirstInTable (G : WrittenGrammar) (wanted : Option (List ℕ)) (it : CheckFault) : Type 0 where
@@ -50,4 +51,4 @@ pub record IsFirstInTable (G : WrittenGrammar) (wanted : Option (List ℕ)) (it 
 
 -- why a grammar isn't checked: by its first fault, or out of memory, which says nothing of the grammar
 abbrev pub IsFault : WrittenGrammar → Option (List ℕ) → CheckFault → Type 0
-IsFault G wanted it = it ≢ Memory → IsFirstInTable G wanted it
+IsFault G wanted it = it ≢ Memory ran_out → IsFirstInTable G wanted it

@@ -17,4 +17,4 @@ check_fault_text (NoBase rule) = codes "no base in " ++ encode_utf8_all rule
 check_fault_text (EmptyLoop rule) = codes "empty loop in " ++ encode_utf8_all rule
 check_fault_text (LeftRecursion rule) = codes "left recursion in " ++ encode_utf8_all rule
 check_fault_text (TooManyRules count) = codes "too many rules: " ++ decimal count
-check_fault_text Memory = codes "out of memory"
+check_fault_text (Memory _) = codes "out of memory"

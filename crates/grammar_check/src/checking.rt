@@ -20,11 +20,12 @@ pub fn check(alloc: Global, grammar: Grammar, start: Option<&str>) -> Result<Che
     requires { grammar_size (grammar_of grammar) < 2 ^ 32 }
     ensures { IsCheckAnswer (grammar_of grammar) (option_map (λ s. chars s.now) start.entry) result }
 {
-    let Ok(kinds) = kinds_in(alloc, &grammar) else {
-        return Err(CheckFault::Memory);
+    let kinds = match kinds_in(alloc, &grammar) {
+        Ok(kinds) => kinds,
+        Err(memory) => return Err(CheckFault::Memory(memory)),
     };
     match first_fault(alloc, &grammar, start, &kinds) {
-        Err(_) => Err(CheckFault::Memory),
+        Err(memory) => Err(CheckFault::Memory(memory)),
         Ok(Answer::Broken(fault)) => Err(fault),
         Ok(Answer::Fine { start }) => Ok(Checked::new(grammar, kinds, start as u32)),
     }

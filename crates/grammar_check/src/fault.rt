@@ -3,6 +3,7 @@
 ghost use Rattle.std.specs.Prelude.{◌≡◌};
 ghost use Rattle.grammar_check.specs.inner.Messages.{no_start};
 
+use faults::Memory;
 use grammar_check_lexer_rules::is_empty_text;
 use grammar_tree::Text;
 use std::fmt;
@@ -44,7 +45,7 @@ pub enum CheckFault {
 
     /// The normal form would have this many rules, above 65,535.
     TooManyRules { count: u64 },
-    Memory,
+    Memory(Memory),
 }
 
 /// What is printed before the name of a start rule that isn't there; no space where it is empty.
@@ -78,7 +79,7 @@ impl fmt::Display for CheckFault {
             CheckFault::EmptyLoop { rule } => write!(f, "empty loop in {rule}"),
             CheckFault::LeftRecursion { rule } => write!(f, "left recursion in {rule}"),
             CheckFault::TooManyRules { count } => write!(f, "too many rules: {count}"),
-            CheckFault::Memory => f.write_str("out of memory"),
+            CheckFault::Memory(_) => f.write_str("out of memory"),
         }
     }
 }

@@ -2,6 +2,7 @@
 use Rattle.std.proofs.Common.{◌≡◌, ◌≢◌, ◌⊎◌, inl, inr, ℕ, List, [], ◌∷◌, ◌++◌, Option, Err, refl, sym, ap, ◌∙◌, subst, append_assoc}
 use Rattle.std.specs.Str.{IsUtf8}
 use Rattle.std.specs.Str.Lossy.{utf8_valid_len}
+use Rattle.faults.specs.Memory.{ran_out}
 use Rattle.grammar_tree.specs.Written.{CheckedGrammar, WrittenGrammar}
 use Rattle.grammar_reader_words.specs.declared.word.Placed.{Placed}
 use Rattle.grammar_reader_words.specs.Words.{words_of}
@@ -29,12 +30,12 @@ module _ (bytes : List ℕ) where
   abbrev Cause : ReadFault → Type 0
   Cause fault = ((IsUtf8 bytes → ⊥) × (fault ≡ read.NotUtf8 (utf8_valid_len bytes))) ⊎ (IsUtf8 bytes × IsFirstFault bytes fault)
 
-  cause : (fault : ReadFault) → fault ≢ read.Memory → IsFaultOf bytes (Err fault) → Cause fault
+  cause : (fault : ReadFault) → fault ≢ read.Memory ran_out → IsFaultOf bytes (Err fault) → Cause fault
   cause (read.NotUtf8 offset) some (invalid, e) = inl (invalid, ap read.NotUtf8 e)
   cause (read.Syntax offset) some (utf8, first) = inr (utf8, first)
   cause (read.Unsupported what offset) some (utf8, first) = inr (utf8, first)
   cause (read.NestedTooDeep offset) some (utf8, first) = inr (utf8, first)
-  cause read.Memory some it = absurd (some refl)
+  cause (read.Memory _) some it = absurd (some refl)
 
   same_cause : (a b : ReadFault) → Cause a → Cause b → a ≡ b
   same_cause a b (inl (invalid, e)) (inl (invalid', f)) = e ∙ sym f
@@ -55,18 +56,19 @@ module _ (bytes : List ℕ) where
     same_check : (G H : WrittenGrammar) (a b : CheckFault) → G ≡ H → IsFirstInTable G wanted a → IsFirstInTable H wanted b → a ≡ b
     same_check G H a b e first other = first_fault_once H wanted a b (subst (λ g. IsFirstInTable g wanted a) e first) other
 
-    once : (one other : GrammarFault) → one ≢ Memory → other ≢ Memory → IsGrammarFault bytes wanted one → IsGrammarFault bytes wanted other → one ≡ other
+    once : (one other : GrammarFault) → one ≢ Memory ran_out → other ≢ Memory ran_out → IsGrammarFault bytes wanted one → IsGrammarFault bytes wanted other
+        → one ≡ other
     once (Read a) (Read b) s t (some, it) (some', that) = ap Read (same_cause a b (cause a some it) (cause b some' that))
     once (Read a) (Check b) s t (some, it) (H, spelled, that) = absurd (no_profile a (cause a some it) H spelled.text)
     once (Check a) (Read b) s t (G, spelled, it) (some, that) = absurd (no_profile b (cause b some that) G spelled.text)
     once (Check a) (Check b) s t (G, spelled, it) (H, other, that) = ap Check (same_check G H a b (spelled.only H other.text) it that)
-    once Memory other s t it that = absurd (s refl)
-    once one Memory s t it that = absurd (t refl)
+    once (Memory _) other s t it that = absurd (s refl)
+    once one (Memory _) s t it that = absurd (t refl)
 
-    refused : (fault : GrammarFault) → fault ≢ Memory → IsGrammarFault bytes wanted fault → (it : CheckedGrammar) → Spells bytes wanted it → ⊥
+    refused : (fault : GrammarFault) → fault ≢ Memory ran_out → IsGrammarFault bytes wanted fault → (it : CheckedGrammar) → Spells bytes wanted it → ⊥
     refused (Read a) s (some, it) c is = no_profile a (cause a some it) c.grammar is.text
     refused (Check a) s (G, spelled, it) c is = no_text bytes wanted G spelled.only a it c is
-    refused Memory s it c is = absurd (s refl)
+    refused (Memory _) s it c is = absurd (s refl)
 
 pub grammar_fault_once : GrammarFaultOnce
 grammar_fault_once bytes wanted = record { once = once bytes wanted; refused = refused bytes wanted }

@@ -1,5 +1,6 @@
 -- Which well-formed grammar bytes spell, and which fault of theirs is the first.
 use Rattle.std.specs.Prelude.{◌≡◌, ◌≢◌, ⊤, ℕ, List, Option, Some, Err}
+use Rattle.faults.specs.Memory.{ran_out}
 use Rattle.grammar_tree.specs.Checked.{IsChecked}
 use Rattle.grammar_tree.specs.Faults.{start_of}
 use Rattle.grammar_tree.specs.Written.{CheckedGrammar, WrittenGrammar}
@@ -22,6 +23,6 @@ pub record SpellsOnly (bytes : List ℕ) (G : WrittenGrammar) : Type 0 where
 
 -- The first fault of the bytes: that of the text, or else, of the one grammar that it spells, the first one in the table. Out of memory says nothing of them.
 abbrev pub IsGrammarFault : List ℕ → Option (List ℕ) → GrammarFault → Type 0
-IsGrammarFault bytes wanted (Read fault) = (fault ≢ read.Memory) × IsFaultOf bytes (Err fault)
+IsGrammarFault bytes wanted (Read fault) = (fault ≢ read.Memory ran_out) × IsFaultOf bytes (Err fault)
 IsGrammarFault bytes wanted (Check fault) = (G : WrittenGrammar) × SpellsOnly bytes G × IsFirstInTable G wanted fault
-IsGrammarFault bytes wanted Memory = ⊤
+IsGrammarFault bytes wanted (Memory _) = ⊤

@@ -8,4 +8,4 @@ use Rattle.grammar_load.specs.declared.fault.GrammarFault.TheVariants.{Read, Che
 abbrev pub grammar_fault_text : GrammarFault → List ℕ
 grammar_fault_text (Read fault) = read_fault_text fault
 grammar_fault_text (Check fault) = check_fault_text fault
-grammar_fault_text Memory = codes "out of memory"
+grammar_fault_text (Memory _) = codes "out of memory"

@@ -1,5 +1,6 @@
 //! Why a text gives no checked grammar.
 
+use faults::Memory;
 use grammar_check::CheckFault;
 use grammar_reader_notation::ReadFault;
 use std::fmt;
@@ -12,7 +13,7 @@ pub enum GrammarFault {
 
     /// The grammar that they spell isn't well-formed.
     Check(CheckFault),
-    Memory,
+    Memory(Memory),
 }
 
 impl fmt::Display for GrammarFault {
@@ -25,7 +26,7 @@ impl fmt::Display for GrammarFault {
         match self {
             GrammarFault::Read(fault) => write!(f, "{fault}"),
             GrammarFault::Check(fault) => write!(f, "{fault}"),
-            GrammarFault::Memory => f.write_str("out of memory"),
+            GrammarFault::Memory(_) => f.write_str("out of memory"),
         }
     }
 }

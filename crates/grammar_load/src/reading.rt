@@ -1,6 +1,7 @@
 //! Reading and checking a text.
 
 ghost use Rattle.std.specs.Prelude.{◌≡◌, ◌<◌, ◌≤◌, ◌^◌, ℕ, List, Option, IfErr, IfOk, MatchResult, chars, length, option_map};
+ghost use Rattle.faults.specs.Memory.{ran_out};
 ghost use Rattle.grammar_tree.specs.GrammarView.{grammar_of};
 ghost use Rattle.grammar_tree.specs.Size.{grammar_size};
 ghost use Rattle.grammar_tree.specs.Written.{CheckedGrammar, WrittenGrammar};
@@ -19,12 +20,12 @@ use std::alloc::Global;
 fn grammar_in(alloc: Global, bytes: &[u8]) -> Result<Grammar, GrammarFault>
     ensures ok { IfOk result (λ grammar. IsProfile bytes.now (grammar_of grammar)) }
     ensures few { IfOk result (λ grammar. grammar_size (grammar_of grammar) ≤ length bytes.now) }
-    ensures only { (G : WrittenGrammar) → IsProfile bytes.now G → MatchResult result (λ grammar. grammar_of grammar ≡ G) (λ fault. fault ≡ Memory) }
+    ensures only { (G : WrittenGrammar) → IsProfile bytes.now G → MatchResult result (λ grammar. grammar_of grammar ≡ G) (λ fault. fault ≡ Memory ran_out) }
     ensures fault { (wanted : Option (List ℕ)) → IfErr result (IsGrammarFault bytes.now wanted) }
 {
     match read_grammar(alloc, bytes) {
         Ok(grammar) => Ok(grammar),
-        Err(ReadFault::Memory) => Err(GrammarFault::Memory),
+        Err(ReadFault::Memory(memory)) => Err(GrammarFault::Memory(memory)),
         Err(fault) => Err(GrammarFault::Read(fault)),
     }
 }
@@ -42,7 +43,7 @@ pub fn checked_grammar(
     requires { length bytes.now < 2 ^ 32 }
     ensures ok { IfOk result (Spells bytes.now (option_map (λ s. chars s.now) start.entry)) }
     ensures only { (it : CheckedGrammar) → Spells bytes.now (option_map (λ s. chars s.now) start.entry) it
-        → MatchResult result (λ found. found ≡ it) (λ fault. fault ≡ Memory) }
+        → MatchResult result (λ found. found ≡ it) (λ fault. fault ≡ Memory ran_out) }
     ensures fault { IfErr result (IsGrammarFault bytes.now (option_map (λ s. chars s.now) start.entry)) }
 {
     let grammar = match grammar_in(alloc, bytes) {
@@ -54,7 +55,7 @@ pub fn checked_grammar(
             checked.is_checked();
             Ok(checked)
         }
-        Err(CheckFault::Memory) => Err(GrammarFault::Memory),
+        Err(CheckFault::Memory(memory)) => Err(GrammarFault::Memory(memory)),
         Err(fault) => Err(GrammarFault::Check(fault)),
     }
 }

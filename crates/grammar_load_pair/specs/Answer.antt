@@ -1,5 +1,6 @@
 -- Which well-formed grammar two texts give, and which fault of theirs is the first.
 use Rattle.std.specs.Prelude.{◌≡◌, ◌≢◌, ⊤, ℕ, List, Option, Some}
+use Rattle.faults.specs.Memory.{ran_out}
 use Rattle.grammar_tree.specs.Checked.{IsChecked}
 use Rattle.grammar_tree.specs.Faults.{start_of}
 use Rattle.grammar_tree.specs.Written.{CheckedGrammar, WrittenGrammar}
@@ -23,6 +24,6 @@ pub record JoinsOnly (lexer parser : List ℕ) (G : WrittenGrammar) : Type 0 whe
 -- The first fault of the two texts: that of the pair, or else, of the one grammar that
 -- they give, the first one in the table. Out of memory says nothing of them.
 abbrev pub IsPairGrammarFault : List ℕ → List ℕ → Option (List ℕ) → PairGrammarFault → Type 0
-IsPairGrammarFault lexer parser wanted (Pair fault) = (fault ≢ pair.Memory) × IsPairFault lexer parser fault
+IsPairGrammarFault lexer parser wanted (Pair fault) = (fault ≢ pair.Memory ran_out) × IsPairFault lexer parser fault
 IsPairGrammarFault lexer parser wanted (Check fault) = (G : WrittenGrammar) × JoinsOnly lexer parser G × IsFirstInTable G wanted fault
-IsPairGrammarFault lexer parser wanted Memory = ⊤
+IsPairGrammarFault lexer parser wanted (Memory _) = ⊤

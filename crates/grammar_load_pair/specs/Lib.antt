@@ -1,3 +1,4 @@
+pub use Rattle.faults.specs.Memory
 pub use Rattle.grammar_pair.specs.Joined
 pub use Rattle.grammar_check.specs.CheckFaults
 pub mod Answer

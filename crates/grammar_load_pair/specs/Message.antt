@@ -8,4 +8,4 @@ use Rattle.grammar_load_pair.specs.declared.fault.PairGrammarFault.TheVariants.{
 abbrev pub pair_grammar_fault_text : PairGrammarFault → List ℕ
 pair_grammar_fault_text (Pair fault) = pair_fault_text fault
 pair_grammar_fault_text (Check fault) = check_fault_text fault
-pair_grammar_fault_text Memory = codes "out of memory"
+pair_grammar_fault_text (Memory _) = codes "out of memory"

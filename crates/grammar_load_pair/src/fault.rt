@@ -1,5 +1,6 @@
 //! Why two texts give no checked grammar.
 
+use faults::Memory;
 use grammar_check::CheckFault;
 use grammar_pair::PairFault;
 use std::fmt;
@@ -12,7 +13,7 @@ pub enum PairGrammarFault {
 
     /// Their grammar isn't well-formed.
     Check(CheckFault),
-    Memory,
+    Memory(Memory),
 }
 
 impl fmt::Display for PairGrammarFault {
@@ -25,7 +26,7 @@ impl fmt::Display for PairGrammarFault {
         match self {
             PairGrammarFault::Pair(fault) => write!(f, "{fault}"),
             PairGrammarFault::Check(fault) => write!(f, "{fault}"),
-            PairGrammarFault::Memory => f.write_str("out of memory"),
+            PairGrammarFault::Memory(_) => f.write_str("out of memory"),
         }
     }
 }

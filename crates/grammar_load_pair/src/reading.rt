@@ -1,6 +1,7 @@
 //! Reading and checking two texts.
 
 ghost use Rattle.std.specs.Prelude.{◌≡◌, ◌<◌, ◌≤◌, ◌+◌, ◌^◌, ℕ, List, Option, IfErr, IfOk, MatchResult, chars, length, option_map};
+ghost use Rattle.faults.specs.Memory.{ran_out};
 ghost use Rattle.grammar_tree.specs.GrammarView.{grammar_of};
 ghost use Rattle.grammar_tree.specs.Size.{grammar_size};
 ghost use Rattle.grammar_tree.specs.Written.{CheckedGrammar, WrittenGrammar};
@@ -18,12 +19,13 @@ use std::alloc::Global;
 fn joined_in(alloc: Global, lexer: &[u8], parser: &[u8]) -> Result<Grammar, PairGrammarFault>
     ensures ok { IfOk result (λ grammar. IsJoined lexer.now parser.now (grammar_of grammar)) }
     ensures few { IfOk result (λ grammar. grammar_size (grammar_of grammar) ≤ length lexer.now + length parser.now) }
-    ensures only { (G : WrittenGrammar) → IsJoined lexer.now parser.now G → MatchResult result (λ grammar. grammar_of grammar ≡ G) (λ fault. fault ≡ Memory) }
+    ensures only { (G : WrittenGrammar) → IsJoined lexer.now parser.now G
+        → MatchResult result (λ grammar. grammar_of grammar ≡ G) (λ fault. fault ≡ Memory ran_out) }
     ensures fault { (wanted : Option (List ℕ)) → IfErr result (IsPairGrammarFault lexer.now parser.now wanted) }
 {
     match join(alloc, lexer, parser) {
         Ok(grammar) => Ok(grammar),
-        Err(PairFault::Memory) => Err(PairGrammarFault::Memory),
+        Err(PairFault::Memory(memory)) => Err(PairGrammarFault::Memory(memory)),
         Err(fault) => Err(PairGrammarFault::Pair(fault)),
     }
 }
@@ -42,7 +44,7 @@ pub fn checked_pair(
     requires { length lexer.now + length parser.now < 2 ^ 32 }
     ensures ok { IfOk result (SpellsPair lexer.now parser.now (option_map (λ s. chars s.now) start.entry)) }
     ensures only { (it : CheckedGrammar) → SpellsPair lexer.now parser.now (option_map (λ s. chars s.now) start.entry) it
-        → MatchResult result (λ found. found ≡ it) (λ fault. fault ≡ Memory) }
+        → MatchResult result (λ found. found ≡ it) (λ fault. fault ≡ Memory ran_out) }
     ensures fault { IfErr result (IsPairGrammarFault lexer.now parser.now (option_map (λ s. chars s.now) start.entry)) }
 {
     let grammar = match joined_in(alloc, lexer, parser) {
@@ -54,7 +56,7 @@ pub fn checked_pair(
             checked.is_checked();
             Ok(checked)
         }
-        Err(CheckFault::Memory) => Err(PairGrammarFault::Memory),
+        Err(CheckFault::Memory(memory)) => Err(PairGrammarFault::Memory(memory)),
         Err(fault) => Err(PairGrammarFault::Check(fault)),
     }
 }

@@ -4,6 +4,7 @@ use Rattle.std.specs.Prelude.{IfErr, IsErrAnd, Ok, Result, codes}
 use Rattle.std.specs.Str.{IsUtf8, is_utf8}
 use Rattle.std.proofs.lemmas.Bool.{cases_Bool}
 use Rattle.std.proofs.lemmas.Str.{IsUtf8-from_is_utf8}
+use Rattle.faults.specs.Memory.{ran_out}
 use Rattle.grammar_tree.specs.Written.{WrittenGrammar}
 use Rattle.grammar_reader_notation.specs.Reads.{IsFaultOf, IsProfile}
 use Rattle.grammar_reader_notation.specs.declared.fault.ReadFault.{ReadFault}
@@ -16,7 +17,8 @@ use Rattle.grammar_pair.specs.declared.fault.PairFault.{PairFault}
 use Rattle.grammar_pair.specs.declared.fault.PairFault.TheVariants as f
 
 -- what is answered where memory runs out
-pub memory_gives : {A : Type 0} (P : PairFault → Type 0) → P f.Memory → (r : Result A PairFault) → IsErrAnd r (λ fault. fault ≡ f.Memory) → IfErr r P
+pub memory_gives : {A : Type 0} (P : PairFault → Type 0) → P (f.Memory ran_out) → (r : Result A PairFault)
+    → IsErrAnd r (λ fault. fault ≡ f.Memory ran_out) → IfErr r P
 memory_gives P memory (Ok a) h = absurd h
 memory_gives P memory (Err fault) h = subst P (sym h) memory
 
@@ -51,7 +53,7 @@ module _ {bytes items body : List ℕ} {found : Bool} (same : body ≡ items) (o
   pub lexer_read : (L : WrittenGrammar) → IsLexerText bytes L → IsProfile body L
   lexer_read L t = subst (λ b. IsProfile b L) (sym lexer_is.is_body) t.read
 
-  pub lexer_fault : (fault : ReadFault) → fault ≢ read.Memory → IsFaultOf body (Err fault) → IsLexerFault bytes (f.LexerText fault)
+  pub lexer_fault : (fault : ReadFault) → fault ≢ read.Memory ran_out → IsFaultOf body (Err fault) → IsLexerFault bytes (f.LexerText fault)
   lexer_fault fault some h = IsLexerFault.lexer_text some (subst (λ b. IsFaultOf b (Err fault)) lexer_is.is_body h)
 
 module _ {bytes items body : List ℕ} {found : Bool} {names : List (List ℕ)} (same : body ≡ items) (of_items : IsParserBody bytes items found names) where
@@ -81,5 +83,5 @@ module _ {bytes items body : List ℕ} {found : Bool} {names : List (List ℕ)} 
   pub parser_read : (P : WrittenGrammar) → IsParserText bytes P → IsProfile body P
   parser_read P t = subst (λ b. IsProfile b P) (sym parser_is.is_body) t.read
 
-  pub parser_fault : (fault : ReadFault) → fault ≢ read.Memory → IsFaultOf body (Err fault) → IsParserFault bytes (f.ParserText fault)
+  pub parser_fault : (fault : ReadFault) → fault ≢ read.Memory ran_out → IsFaultOf body (Err fault) → IsParserFault bytes (f.ParserText fault)
   parser_fault fault some h = IsParserFault.parser_text some (subst (λ b. IsFaultOf b (Err fault)) parser_is.is_body h)

@@ -3,6 +3,7 @@ use Rattle.std.proofs.Common.{◌≡◌, ◌≢◌, ◌≤◌, ◌+◌, ℕ, Lis
 use Rattle.std.specs.Prelude.{IfErr, IfOk, MatchResult, Result, sum_by}
 use Rattle.std.proofs.lemmas.List.Sums.{sum_by-append}
 use Rattle.std.proofs.lemmas.Result.{IfErr-weaker, IfOk-weaker, MatchResult-from_both}
+use Rattle.faults.specs.Memory.{ran_out}
 use Rattle.grammar_tree.specs.GrammarView.{grammar_of}
 use Rattle.grammar_tree.specs.declared.rule.Grammar.{Grammar}
 use Rattle.grammar_tree.specs.Size.{grammar_size, rule_size}
@@ -125,7 +126,7 @@ module _ (lexer parser : List ℕ) (L P : WrittenGrammar) (lt : IsLexerText lexe
     fault IsJoinFault.memory = IsPairFault.memory
 
     -- a pair with a fault is joined to no grammar
-    pub none : (H : WrittenGrammar) → IsJoined lexer parser H → {fault : PairFault} → IsJoinFault L P names fault → fault ≡ Memory
+    pub none : (H : WrittenGrammar) → IsJoined lexer parser H → {fault : PairFault} → IsJoinFault L P names fault → fault ≡ Memory ran_out
     none H k (IsJoinFault.other_vocab {name} e) = absurd (has_vocabulary H k name (ap first (sym same_others) ∙ e))
     none H k (IsJoinFault.wrong_rule {name} v e) = absurd (has_rules H k name e)
     none H k (IsJoinFault.no_literal {literal} v r e) = absurd (has_literals H k literal e)
@@ -140,7 +141,7 @@ module _ (lexer parser : List ℕ) (L P : WrittenGrammar) (lt : IsLexerText lexe
       pub small : (n m : ℕ) → grammar_size L ≤ n → grammar_size P ≤ m → IfOk result (λ g. grammar_size (grammar_of g) ≤ n + m)
       small n m a b = IfOk-weaker result _ _ (λ g j. few (grammar_of g) j a b) done
 
-      pub alone : (H : WrittenGrammar) → IsJoined lexer parser H → MatchResult result (λ g. grammar_of g ≡ H) (λ fault. fault ≡ Memory)
+      pub alone : (H : WrittenGrammar) → IsJoined lexer parser H → MatchResult result (λ g. grammar_of g ≡ H) (λ fault. fault ≡ Memory ran_out)
       alone H k =
           MatchResult-from_both result _ _ (IfOk-weaker result _ _ (λ g j. only (grammar_of g) j H k) done)
           (IfErr-weaker result _ _ (λ fault r. none H k r) refused)

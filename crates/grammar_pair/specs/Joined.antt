@@ -1,6 +1,7 @@
 -- The grammar of a lexer text and a parser text, and the faults of a pair.
 use Rattle.std.specs.Prelude.{◌≡◌, ◌≢◌, ◌↔◌, ℕ, Bool, not, ◌&&◌, List, [], ◌∷◌, ◌++◌, Option, Some, None, Err, map, filter, find, is_none, position, codes}
 use Rattle.std.specs.List.{Contains, filter_map}
+use Rattle.faults.specs.Memory.{ran_out}
 use Rattle.grammar_tree.specs.Derives.{Derives, Term, RuleDerives, resolved_alts}
 use Rattle.grammar_tree.specs.Kinds.{all_references, as_literal, declared_names, is_just, is_named_by, kinds_of, lexer_rules}
 use Rattle.grammar_tree.specs.Kinds.{literal_kind, name_kind, parser_rules, rule_number, same_text}
@@ -69,15 +70,15 @@ pub record IsJoined (lexer parser : List ℕ) (G : WrittenGrammar) : Type 0 wher
 
 -- The faults of a lexer text: its body isn't read, or its first word isn't `lexer`. Out of memory says nothing of it.
 pub data IsLexerFault (bytes : List ℕ) : PairFault → Type 0 where
-  lexer_text : {fault : ReadFault} → fault ≢ read.Memory → IsFaultOf (lexer_body bytes) (Err fault) → IsLexerFault bytes (LexerText fault)
+  lexer_text : {fault : ReadFault} → fault ≢ read.Memory ran_out → IsFaultOf (lexer_body bytes) (Err fault) → IsLexerFault bytes (LexerText fault)
   not_lexer : {L : WrittenGrammar} → IsProfile (lexer_body bytes) L → ¬ BeginsWith (codes "lexer") bytes → IsLexerFault bytes NotLexer
-  memory : IsLexerFault bytes Memory
+  memory : IsLexerFault bytes (Memory ran_out)
 
 -- The faults of a parser text: its body isn't read, or its first word isn't `parser`.
 pub data IsParserFault (bytes : List ℕ) : PairFault → Type 0 where
-  parser_text : {fault : ReadFault} → fault ≢ read.Memory → IsFaultOf (parser_body bytes) (Err fault) → IsParserFault bytes (ParserText fault)
+  parser_text : {fault : ReadFault} → fault ≢ read.Memory ran_out → IsFaultOf (parser_body bytes) (Err fault) → IsParserFault bytes (ParserText fault)
   not_parser : {P : WrittenGrammar} → IsProfile (parser_body bytes) P → ¬ BeginsWith (codes "parser") bytes → IsParserFault bytes NotParser
-  memory : IsParserFault bytes Memory
+  memory : IsParserFault bytes (Memory ran_out)
 
 -- The faults of two texts, each where none of the earlier ones holds: those of the lexer text,
 -- those of the parser text, and those of the pair. Out of memory says nothing of them.
@@ -93,7 +94,7 @@ pub data IsPairFault (lexer parser : List ℕ) : PairFault → Type 0 where
   -- the first literal that would be an implicit token
   no_literal : {L P : WrittenGrammar} {literal : List ℕ} → IsLexerOf lexer L → IsParserOf parser P → other_vocabularies L parser ≡ [] → wrong_rules L P ≡ [] →
       first_implicit (joined L P).rules ≡ Some literal → IsPairFault lexer parser (NoLiteral literal)
-  memory : IsPairFault lexer parser Memory
+  memory : IsPairFault lexer parser (Memory ran_out)
 
 -- No kind of the grammar is a literal of parser rules.
 abbrev pub HasNoImplicitKind : WrittenGrammar → Type 0

@@ -1,3 +1,4 @@
+pub use Rattle.faults.specs.Memory
 pub use Rattle.grammar_reader_notation.specs.Reads
 pub use Rattle.grammar_reader_words.specs.Spans
 pub use Rattle.grammar_tree.specs.Written

@@ -13,4 +13,4 @@ pair_fault_text NotParser = codes "not a parser grammar"
 pair_fault_text (OtherVocab name) = codes "other vocabulary " ++ encode_utf8_all name
 pair_fault_text (WrongRule name) = codes "misplaced rule " ++ encode_utf8_all name
 pair_fault_text (NoLiteral literal) = codes "no token for " ++ literal_bytes literal
-pair_fault_text Memory = codes "out of memory"
+pair_fault_text (Memory _) = codes "out of memory"

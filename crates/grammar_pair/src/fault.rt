@@ -36,14 +36,14 @@ pub enum PairFault {
     NoLiteral { literal: Text },
 
     /// Out of memory: it says nothing of the texts.
-    Memory,
+    Memory(Memory),
 }
 
 impl From<Memory> for PairFault {
-    ghost from_gives = { λ _ fault. fault ≡ f.Memory };
+    ghost from_gives = { λ memory fault. fault ≡ f.Memory memory };
 
-    fn from(_: Memory) -> PairFault {
-        PairFault::Memory
+    fn from(memory: Memory) -> PairFault {
+        PairFault::Memory(memory)
     }
 }
 
@@ -66,7 +66,7 @@ impl fmt::Display for PairFault {
                 "no token for {}",
                 PrintedLiteral(literal)
             ),
-            PairFault::Memory => f.write_str("out of memory"),
+            PairFault::Memory(_) => f.write_str("out of memory"),
         }
     }
 }

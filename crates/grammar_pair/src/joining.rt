@@ -2,6 +2,7 @@
 
 ghost use Rattle.std.specs.Prelude.{◌≡◌, ◌≤◌, ◌+◌, ℕ, IfErr, IfOk, List, MatchResult, Option, filter, find, is_none, length, map, not, option_map};
 ghost use Rattle.std.specs.List.{filter_map};
+ghost use Rattle.faults.specs.Memory.{ran_out};
 ghost use Rattle.grammar_names.specs.Index.{Finds};
 ghost use Rattle.grammar_tree.specs.GrammarView.{grammar_of, rule_of};
 ghost use Rattle.grammar_tree.specs.Kinds.{as_literal, lexer_rules, parser_rules, same_text};
@@ -15,6 +16,7 @@ ghost use Rattle.grammar_pair.specs.declared.fault.PairFault.TheVariants.{Memory
 
 use crate::fault::PairFault;
 use crate::reading::{read_lexer, read_parser};
+use faults::Limit;
 use grammar_check_parser_rules::{Key, references_of, rules_by};
 use grammar_names::Index;
 use grammar_tree::{Grammar, Memory, Rule, Text, TokenRef};
@@ -119,9 +121,7 @@ fn first_unnamed(references: &[TokenRef], named: &Index) -> Result<Option<Text>,
 fn first_implicit(alloc: Global, rules: &[Rule]) -> Result<Option<Text>, Memory>
     ensures { IfOk result (λ found. found ≡ first_implicit (map rule_of rules.now)) }
 {
-    if rules.len() > u32::MAX as usize {
-        return Err(Memory);
-    }
+    Limit::Numbers.within(rules.len())?;
     let references = references_of(alloc, rules)?;
     let named = rules_by(alloc, rules, Key::Literal)?;
     first_unnamed(&references, &named)
@@ -158,7 +158,7 @@ fn join_read(
 pub fn join(alloc: Global, lexer: &[u8], parser: &[u8]) -> Result<Grammar, PairFault>
     ensures ok { IfOk result (λ g. IsJoined lexer.now parser.now (grammar_of g)) }
     ensures few { IfOk result (λ g. grammar_size (grammar_of g) ≤ length lexer.now + length parser.now) }
-    ensures only { (G : WrittenGrammar) → IsJoined lexer.now parser.now G → MatchResult result (λ g. grammar_of g ≡ G) (λ fault. fault ≡ OutOfMemory) }
+    ensures only { (G : WrittenGrammar) → IsJoined lexer.now parser.now G → MatchResult result (λ g. grammar_of g ≡ G) (λ fault. fault ≡ OutOfMemory ran_out) }
     ensures fault { IfErr result (IsPairFault lexer.now parser.now) }
     ensures kinds { IfOk result (λ g. HasNoImplicitKind (grammar_of g)) }
     ensures lexing { IfOk result (λ g. LexesByLexer lexer.now (grammar_of g)) }

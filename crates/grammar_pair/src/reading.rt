@@ -1,6 +1,7 @@
 //! Reading a lexer text and a parser text.
 
 ghost use Rattle.std.specs.Prelude.{◌≡◌, ◌≤◌, IfErr, IfOk, MatchResult, length};
+ghost use Rattle.faults.specs.Memory.{ran_out};
 ghost use Rattle.grammar_tree.specs.GrammarView.{grammar_of};
 ghost use Rattle.grammar_tree.specs.Size.{grammar_size};
 ghost use Rattle.grammar_tree.specs.Written.{WrittenGrammar};
@@ -49,14 +50,14 @@ fn parser_body(alloc: Global, bytes: &[u8]) -> Result<(Vec<u8>, bool, Vec<Text>)
 pub fn read_lexer(alloc: Global, bytes: &[u8]) -> Result<Grammar, PairFault>
     ensures ok { IfOk result (λ g. IsLexerText bytes.now (grammar_of g)) }
     ensures few { IfOk result (λ g. grammar_size (grammar_of g) ≤ length bytes.now) }
-    ensures only { (L : WrittenGrammar) → IsLexerText bytes.now L → MatchResult result (λ g. grammar_of g ≡ L) (λ fault. fault ≡ OutOfMemory) }
+    ensures only { (L : WrittenGrammar) → IsLexerText bytes.now L → MatchResult result (λ g. grammar_of g ≡ L) (λ fault. fault ≡ OutOfMemory ran_out) }
     ensures fault { IfErr result (λ fault. IsLexerFault bytes.now fault) }
 {
     let (body, is_lexer) = lexer_body(alloc, bytes)?;
     match read_grammar(alloc, &body) {
         Ok(grammar) if is_lexer => Ok(grammar),
         Ok(_) => Err(PairFault::NotLexer),
-        Err(ReadFault::Memory) => Err(PairFault::Memory),
+        Err(ReadFault::Memory(memory)) => Err(PairFault::Memory(memory)),
         Err(fault) => Err(PairFault::LexerText(fault)),
     }
 }
@@ -66,14 +67,14 @@ pub fn read_parser(alloc: Global, bytes: &[u8]) -> Result<(Grammar, Vec<Text>), 
     ensures ok { IfOk result (λ p. IsParserText bytes.now (grammar_of p.0)) }
     ensures names { IfOk result (λ p. p.1.items ≡ vocabularies (entries_of bytes.now)) }
     ensures few { IfOk result (λ p. grammar_size (grammar_of p.0) ≤ length bytes.now) }
-    ensures only { (P : WrittenGrammar) → IsParserText bytes.now P → MatchResult result (λ p. grammar_of p.0 ≡ P) (λ fault. fault ≡ OutOfMemory) }
+    ensures only { (P : WrittenGrammar) → IsParserText bytes.now P → MatchResult result (λ p. grammar_of p.0 ≡ P) (λ fault. fault ≡ OutOfMemory ran_out) }
     ensures fault { IfErr result (λ fault. IsParserFault bytes.now fault) }
 {
     let (body, is_parser, names) = parser_body(alloc, bytes)?;
     match read_grammar(alloc, &body) {
         Ok(grammar) if is_parser => Ok((grammar, names)),
         Ok(_) => Err(PairFault::NotParser),
-        Err(ReadFault::Memory) => Err(PairFault::Memory),
+        Err(ReadFault::Memory(memory)) => Err(PairFault::Memory(memory)),
         Err(fault) => Err(PairFault::ParserText(fault)),
     }
 }

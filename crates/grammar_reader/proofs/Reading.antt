@@ -218,4 +218,4 @@ is_fault bytes (f.NotUtf8 offset) u h = absurd (none h.named) where
 is_fault bytes (f.Syntax offset) u h = (u, h)
 is_fault bytes (f.Unsupported what offset) u h = (u, h)
 is_fault bytes (f.NestedTooDeep offset) u h = (u, h)
-is_fault bytes f.Memory u h = tt
+is_fault bytes (f.Memory _) u h = tt

@@ -10,4 +10,4 @@ read_fault_text (f.NotUtf8 offset) = codes "not UTF-8 at byte " ++ decimal offse
 read_fault_text (f.Syntax offset) = codes "syntax at byte " ++ decimal offset
 read_fault_text (f.Unsupported what offset) = codes "unsupported " ++ (name_of what ++ (codes " at byte " ++ decimal offset))
 read_fault_text (f.NestedTooDeep offset) = codes "nested too deep at byte " ++ decimal offset
-read_fault_text f.Memory = codes "out of memory"
+read_fault_text (f.Memory _) = codes "out of memory"

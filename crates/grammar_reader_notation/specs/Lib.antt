@@ -1,3 +1,4 @@
+pub use Rattle.faults.specs.Memory
 pub use Rattle.grammar_tree.specs.Written
 pub use Rattle.grammar_tree.specs.Size
 pub mod Sets

@@ -2,6 +2,7 @@
 use Rattle.std.specs.Prelude.{ℕ, ◌≡◌, List, [], ◌∷◌, ◌++◌, map, Result, Ok, Err}
 use Rattle.std.specs.Str.{IsUtf8}
 use Rattle.std.specs.Str.Lossy.{utf8_valid_len}
+use Rattle.faults.specs.Memory.{ran_out}
 use Rattle.grammar_tree.specs.Written.{WrittenGrammar}
 use Rattle.grammar_tree.specs.GrammarView.{grammar_of}
 use Rattle.grammar_tree.specs.declared.rule.Grammar.{Grammar}
@@ -38,12 +39,12 @@ IsFaultOf bytes (Err (f.NotUtf8 offset)) = (IsUtf8 bytes → ⊥) × (offset ≡
 IsFaultOf bytes (Err (f.Syntax offset)) = IsUtf8 bytes × IsFirstFault bytes (f.Syntax offset)
 IsFaultOf bytes (Err (f.Unsupported what offset)) = IsUtf8 bytes × IsFirstFault bytes (f.Unsupported what offset)
 IsFaultOf bytes (Err (f.NestedTooDeep offset)) = IsUtf8 bytes × IsFirstFault bytes (f.NestedTooDeep offset)
-IsFaultOf bytes (Err f.Memory) = Unit {0}
+IsFaultOf bytes (Err (f.Memory _)) = Unit {0}
 
 -- a profile text is read as its grammar, unless memory runs out
 abbrev pub IsReadAs : WrittenGrammar → Result Grammar ReadFault → Type 0
 IsReadAs G (Ok g) = grammar_of g ≡ G
-IsReadAs G (Err fault) = fault ≡ f.Memory
+IsReadAs G (Err fault) = fault ≡ f.Memory ran_out
 
 -- A text has one first fault at most.
 abbrev pub FaultsOnce : Type 0

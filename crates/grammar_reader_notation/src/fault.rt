@@ -76,14 +76,14 @@ pub enum ReadFault {
     /// The first word that can't follow begins here, and is the bracket that opens the
     /// 65th block, one in another.
     NestedTooDeep { offset: u64 },
-    Memory,
+    Memory(Memory),
 }
 
 impl From<Memory> for ReadFault {
-    ghost from_gives = { λ _ e. e ≡ f.Memory };
+    ghost from_gives = { λ memory e. e ≡ f.Memory memory };
 
-    fn from(_: Memory) -> ReadFault {
-        ReadFault::Memory
+    fn from(memory: Memory) -> ReadFault {
+        ReadFault::Memory(memory)
     }
 }
 
@@ -102,7 +102,7 @@ impl fmt::Display for ReadFault {
                 write!(f, "unsupported {name} at byte {offset}")
             }
             ReadFault::NestedTooDeep { offset } => write!(f, "nested too deep at byte {offset}"),
-            ReadFault::Memory => f.write_str("out of memory"),
+            ReadFault::Memory(_) => f.write_str("out of memory"),
         }
     }
 }

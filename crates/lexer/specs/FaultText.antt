@@ -5,4 +5,4 @@ use Rattle.lexer.specs.declared.token.LexFault.{LexFault}
 
 abbrev pub fault_text : LexFault → List ℕ
 fault_text (LexFault.NoToken offset) = codes "no token at byte " ++ decimal offset
-fault_text LexFault.Memory = codes "out of memory"
+fault_text (LexFault.Memory _) = codes "out of memory"

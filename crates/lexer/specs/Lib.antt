@@ -1,3 +1,4 @@
+pub use Rattle.faults.specs.Memory
 pub mod Tokens
 pub mod FaultText
 pub mod Pieces

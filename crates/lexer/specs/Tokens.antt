@@ -15,7 +15,7 @@ HasTokens G text tokens = (pieces : List Piece) × Lexes G text pieces × (token
 -- the fault reports the offset at which the reading stops
 abbrev pub ReportsStop : WrittenGrammar → List ℕ → LexFault → Type 0
 ReportsStop G text (LexFault.NoToken offset) = StopsAt G text offset
-ReportsStop G text LexFault.Memory = ⊤
+ReportsStop G text (LexFault.Memory _) = ⊤
 
 -- the text of this one character is one piece of a gap kind
 abbrev pub IsGapText : WrittenGrammar → ℕ → Type 0

@@ -6,7 +6,7 @@ ghost use Rattle.lexer.specs.inner.Gaps.{AreEmptyFlags};
 ghost use Rattle.lexer_match.specs.Nfa.{IsClosed};
 ghost use Rattle.lexer_match.specs.inner.StateSets.{GoesFrom, GoesTo};
 
-use faults::Memory;
+use faults::{Limit, Memory};
 use grammar_check_cycles::reached_from;
 use lexer_match::State;
 use std::alloc::Global;
@@ -74,9 +74,7 @@ pub(crate) fn read_nothing(alloc: Global, nfa: &[State]) -> Result<Vec<bool>, Me
     ensures len { IfOk result (λ flags. vec_len flags ≡ length nfa.now) }
     ensures flags { IfOk result (λ flags. AreEmptyFlags nfa.now flags.items) }
 {
-    if nfa.len() > u32::MAX as usize {
-        return Err(Memory);
-    }
+    Limit::Numbers.within(nfa.len())?;
     let rows = sources(alloc, nfa)?;
     let mut flags = reached_from(alloc, &rows, 0)?;
     flags[0] = true;

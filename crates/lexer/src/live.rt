@@ -8,7 +8,7 @@ ghost use Rattle.lexer_match.specs.Live.{AreLive};
 ghost use Rattle.lexer_match.specs.Nfa.{IsClosed};
 
 use crate::empty::{add_edge, add_source, no_sources};
-use faults::Memory;
+use faults::{Limit, Memory};
 use grammar_check_cycles::reached_from;
 use grammar_tree::CharSet;
 use lexer_match::State;
@@ -74,9 +74,7 @@ fn read_something(alloc: Global, nfa: &[State]) -> Result<Vec<bool>, Memory>
     ensures len { IfOk result (λ flags. vec_len flags ≡ length nfa.now) }
     ensures flags { IfOk result (λ flags. AreReadFlags nfa.now flags.items) }
 {
-    if nfa.len() > u32::MAX as usize {
-        return Err(Memory);
-    }
+    Limit::Numbers.within(nfa.len())?;
     let rows = all_sources(alloc, nfa)?;
     let mut flags = reached_from(alloc, &rows, 0)?;
     flags[0] = true;

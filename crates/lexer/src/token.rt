@@ -27,7 +27,7 @@ pub enum LexFault {
     NoToken { offset: u64 },
 
     /// Memory ran out.
-    Memory,
+    Memory(Memory),
 }
 
 impl fmt::Display for LexFault {
@@ -39,7 +39,7 @@ impl fmt::Display for LexFault {
     fn fmt<W: fmt::Write>(&self, f: &mut fmt::Formatter<W>) -> fmt::Result {
         match self {
             LexFault::NoToken { offset } => write!(f, "no token at byte {offset}"),
-            LexFault::Memory => f.write_str("out of memory"),
+            LexFault::Memory(_) => f.write_str("out of memory"),
         }
     }
 }
@@ -50,20 +50,21 @@ impl From<Memory> for LexFault {
     ghost use Rattle.std.specs.Prelude.{◌≡◌};
     ghost use Rattle.lexer.specs.declared.token.LexFault.{LexFault};
 
-    ghost from_gives = { λ _ fault. fault ≡ LexFault.Memory };
+    ghost from_gives = { λ memory fault. fault ≡ LexFault.Memory memory };
 
-    fn from(_: Memory) -> LexFault {
-        LexFault::Memory
+    fn from(memory: Memory) -> LexFault {
+        LexFault::Memory(memory)
     }
 }
 
 impl<T: Drop> From<AllocFailed<T>> for LexFault {
     ghost use Rattle.std.specs.Prelude.{◌≡◌};
+    ghost use Rattle.faults.specs.Memory.{ran_out};
     ghost use Rattle.lexer.specs.declared.token.LexFault.{LexFault};
 
-    ghost from_gives = { λ _ fault. fault ≡ LexFault.Memory };
+    ghost from_gives = { λ _ fault. fault ≡ LexFault.Memory ran_out };
 
-    fn from(_: AllocFailed<T>) -> LexFault {
-        LexFault::Memory
+    fn from(refused: AllocFailed<T>) -> LexFault {
+        LexFault::Memory(Memory::from(refused))
     }
 }

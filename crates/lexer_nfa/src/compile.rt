@@ -17,40 +17,30 @@ ghost use Rattle.lexer_match.specs.Nfa.{IsClosed};
 ghost use Rattle.lexer_match.specs.declared.nfa.State.{State};
 
 use crate::names::NamedRules;
-use faults::Memory;
+use faults::{Limit, Memory};
 use grammar_tree::{CharSet, LexAlts, LexTerm, LexTerms, Text};
 use lexer_match::State;
 
-/// An NFA has at most so many states. Without this bound a short grammar would make a very large
-/// one, as fragments of which each names another one twice.
-const MOST_NODES: usize = 1_000_000;
-
-/// The sets of an NFA have at most so many ranges.
-const MOST_RANGES: usize = 4_000_000;
-
-/// How much the states of an NFA may still take.
+/// How much the states of an NFA take.
 #[derive(Drop)]
 pub(crate) struct Budget {
-    ranges_left: usize,
+    /// The ranges of all sets.
+    ranges: usize,
 }
 
 impl Budget {
     /// That of an NFA with no state.
     pub(crate) fn new() -> Budget {
-        Budget {
-            ranges_left: MOST_RANGES,
-        }
+        Budget { ranges: 0 }
     }
 
-    /// A copy of the set. Refused where it has too many ranges.
+    /// A copy of the set. Refused where all sets together have too many ranges.
     fn copy(&mut self, set: &CharSet) -> Result<CharSet, Memory>
         ensures { IfOk result (λ copy. copy ≡ set.now) }
     {
-        let ranges = set.ranges().len();
-        if ranges > self.ranges_left {
-            return Err(Memory);
-        }
-        self.ranges_left -= ranges;
+        let ranges = self.ranges.saturating_add(set.ranges().len());
+        Limit::Ranges.within(ranges)?;
+        self.ranges = ranges;
         set.copy()
     }
 }
@@ -61,9 +51,7 @@ fn add(states: &mut Vec<State>, state: State) -> Result<usize, Memory>
     ensures number { IfOk result (λ n. n ≡ length states.old.items) }
 {
     let number = states.len();
-    if number >= MOST_NODES {
-        return Err(Memory);
-    }
+    Limit::States.within(number + 1)?;
     states.push(state)?;
     Ok(number)
 }

@@ -12,6 +12,7 @@ use Rattle.std.specs.List.{AllByRecursion, IsDistinct, list_any}
 use Rattle.std.specs.List.Sorted.{IsPermutation}
 use Rattle.std.specs.Str.{bytes_eq}
 use Rattle.faults.specs.Count.{Rose}
+use Rattle.faults.specs.Memory.{ran_out}
 use Rattle.script_gate_trait.specs.declared.gate.Verdict.{Verdict}
 use Rattle.script_gate_trait.specs.declared.gate.Verdict.TheVariants.{No}
 use Rattle.edge_io.specs.Sink.{Put}
@@ -395,9 +396,9 @@ module _ {S J : Type 0} (plan first : S → Plan) (may_say : List ℕ → Verdic
   kept_failed A NotWritten table history journal writes rose =
       subst (λ (s : BoardState S J). IsKept plan first may_say put_so_far faults s)
       (left table history journal (Some Journal) state.table state.history writes.0 writes.1) (kept_broken journal writes.2 (rose refl))
-  kept_failed A OutOfMemory table history journal writes rose =
+  kept_failed A (OutOfMemory _) table history journal writes rose =
       subst (λ (s : BoardState S J). IsKept plan first may_say put_so_far faults s)
-      (λ i. record state { table = sym writes.0 i; history = sym writes.1 i; journal = sym writes.2 i; fault = Some Memory })
+      (λ i. record state { table = sym writes.0 i; history = sym writes.1 i; journal = sym writes.2 i; fault = Some (Memory ran_out) })
       (kept_out_of_memory plan first may_say put_so_far faults state kept unstopped)
 
   pub failed_ends : (A : Type 0) (fault : BoardFault) (table : TableState) (history : History) (journal : J)
@@ -408,12 +409,12 @@ module _ {S J : Type 0} (plan first : S → Plan) (may_say : List ℕ → Verdic
       subst (λ (s : BoardState S J). IsUnrecalled plan put_so_far state s)
       (left table history journal (Some Journal) state.table state.history writes.0 writes.1)
       (record { kept = r; could = could; found = found; part = writes.2; else_same = refl })
-  failed_ends A OutOfMemory table history journal writes =
-      (could, λ i. record state { table = writes.0 i; history = writes.1 i; journal = writes.2 i; fault = Some Memory })
+  failed_ends A (OutOfMemory memory) table history journal writes =
+      (could, λ i. record state { table = writes.0 i; history = writes.1 i; journal = writes.2 i; fault = Some (Memory memory) })
 
 -- after a failure the history is as before
 pub failed_same : {J : Type 0} (put_so_far : J → Option Put) (A : Type 0) (fault : BoardFault) (r : Record) (table table_after : TableState)
     (history history_after : History) (old new : J)
     → RecordsKept {A = A} put_so_far (Err fault) r table table_after history history_after old new → history_after ≡ history
 failed_same put_so_far A NotWritten r table table_after history history_after old new writes = writes.1
-failed_same put_so_far A OutOfMemory r table table_after history history_after old new writes = writes.1
+failed_same put_so_far A (OutOfMemory _) r table table_after history history_after old new writes = writes.1

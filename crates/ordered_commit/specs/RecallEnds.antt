@@ -47,4 +47,4 @@ abbrev pub RecallEnds : {S J : Type 0} → (S → Plan) → (J → Option Put) �
 RecallEnds plan put_so_far (Ok true) old new = IsRecalled plan put_so_far old new
 RecallEnds plan put_so_far (Ok false) old new = (¬ CanRecall plan old) × (new ≡ old)
 RecallEnds plan put_so_far (Err Journal) old new = IsUnrecalled plan put_so_far old new
-RecallEnds plan put_so_far (Err Memory) old new = CanRecall plan old × (new ≡ record old { fault = Some MemoryFault })
+RecallEnds plan put_so_far (Err (Memory memory)) old new = CanRecall plan old × (new ≡ record old { fault = Some (MemoryFault memory) })

@@ -43,7 +43,7 @@ TakeEnds plan (Ok Done) seat seat_after old new = (old.fault ≡ None) × HasEnd
 TakeEnds plan (Ok NotYet) seat seat_after old new = IsWaiting plan seat.worker old × (seat_after ≡ seat) × (new ≡ old)
 TakeEnds plan (Ok (Work permit)) seat seat_after old new = IsClaimed plan permit seat seat_after old new
 TakeEnds plan (Err memory) seat seat_after old new =
-    (old.fault ≡ None) × IsSome (asked (plan old.front)) × (seat_after ≡ seat) × (new ≡ record old { fault = Some MemoryFault })
+    (old.fault ≡ None) × IsSome (asked (plan old.front)) × (seat_after ≡ seat) × (new ≡ record old { fault = Some (MemoryFault memory) })
 
 -- the permit's token is of these texts, and shows its text
 abbrev pub IsShown : Shelves → Take → Type 0

@@ -22,7 +22,7 @@ use gate_permits::{Permit, Texts};
 use reduce_journal::Event;
 use reduce_step::Step;
 use script_gate_trait::{Bytes, Gate};
-use std::alloc::Global;
+use std::alloc::{AllocError, Global};
 use std::sync::Wait;
 use verdict_table::{Found, Kept};
 
@@ -123,7 +123,8 @@ fn claim_next<S: Step, W: Wait>(
     };
     events.reserve(workers)?;
     let Ok(token) = texts.push_shown(rt, text.share()?) else {
-        return Err(Memory);
+        // The texts hand the text back where they get no memory for it, and say no more.
+        return Err(Memory::from(AllocError));
     };
     let claim = table.claim(text)?;
     Ok(Some(Permit::new(claim, token)))
@@ -163,7 +164,7 @@ impl<S: Step + Drop, G: Gate, J: Sink + Drop> Board<S, G, J> {
             self.seats.len(),
         ) {
             Err(memory) => {
-                self.fault = Some(PoolFault::Memory);
+                self.fault = Some(PoolFault::Memory(memory));
                 Err(memory)
             }
             Ok(None) => Ok(Take::NotYet),

@@ -12,6 +12,7 @@ use crate::board::Board;
 use crate::claim_table::ClaimTable;
 use crate::fault::{BoardFault, PoolFault};
 use edge_io::Sink;
+use faults::Memory;
 use reduce_journal::{Event, write_event};
 use reduce_step::Step;
 use script_gate_trait::{Gate, Verdict};
@@ -81,9 +82,10 @@ impl<S: Step + Drop, G: Gate, J: Sink + Drop> Board<S, G, J> {
         let Some((number, verdict)) = next_commit(&self.front, &self.table) else {
             return Ok(false);
         };
-        if self.events.reserve(self.seats.len() + 1).is_err() {
-            self.fault = Some(PoolFault::Memory);
-            return Err(BoardFault::Memory);
+        if let Err(refused) = self.events.reserve(self.seats.len() + 1) {
+            let memory = Memory::from(refused);
+            self.fault = Some(PoolFault::Memory(memory));
+            return Err(BoardFault::Memory(memory));
         }
         match commit_record(
             &mut self.front,

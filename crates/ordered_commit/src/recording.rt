@@ -35,7 +35,7 @@ fn write_unless_broken<J: Sink>(
 {
     match fault {
         Some(PoolFault::Journal) => Ok(()),
-        None | Some(PoolFault::Script { .. } | PoolFault::Memory) => write_event(journal, event),
+        None | Some(PoolFault::Script { .. } | PoolFault::Memory(_)) => write_event(journal, event),
     }
 }
 

@@ -3,6 +3,7 @@ use Rattle.std.proofs.Common.{◌≡◌, ◌≢◌, ◌⊎◌, inl, inr, ℕ, su
 use Rattle.std.proofs.Common.{true, false, refl, sym, ap, ◌∙◌, subst, arith, append_assoc, append-nil, length-append}
 use Rattle.std.specs.List.{flat_map}
 use Rattle.std.specs.Prelude.{IsErrOf}
+use Rattle.faults.specs.Memory.{ran_out}
 use Rattle.script_gate_trait.specs.declared.gate.Verdict.TheVariants.{Yes, No}
 use Rattle.reduce_journal.specs.declared.digest.Digest.{Digest}
 use Rattle.reduce_journal.specs.declared.event.Event.{Event}
@@ -155,14 +156,14 @@ module _ {A : Type 0} (bytes : List ℕ) where
   pub fails_as_journal : (fault : JournalFault) → ¬ IsErrOf {T = A} (Err fault) BadHead
       → ((offset : ℕ) → IsErrOf {T = A} (Err fault) (BadRecord offset) → IsBadAt bytes offset) → (first : Head) (events : History) (torn : ℕ)
       → IsJournalOf bytes first events torn → GivesJournal first events torn (Err fault)
-  fails_as_journal Memory headed bad first events torn is = tt
+  fails_as_journal (Memory _) headed bad first events torn is = tt
   fails_as_journal BadHead headed bad first events torn is = headed refl
   fails_as_journal (BadRecord offset) headed bad first events torn is = not_both bytes first events torn offset is (bad offset refl)
 
   pub fails_as_bad : (fault : JournalFault) → ¬ IsErrOf {T = A} (Err fault) BadHead
       → ((offset : ℕ) → IsErrOf {T = A} (Err fault) (BadRecord offset) → IsBadAt bytes offset) → (offset : ℕ) → IsBadAt bytes offset
-      → IsErrOf {T = Journal} (Err fault) (BadRecord offset) ⊎ IsErrOf {T = Journal} (Err fault) Memory
-  fails_as_bad Memory headed bad offset is = inr refl
+      → IsErrOf {T = Journal} (Err fault) (BadRecord offset) ⊎ IsErrOf {T = Journal} (Err fault) (Memory ran_out)
+  fails_as_bad (Memory _) headed bad offset is = inr refl
   fails_as_bad BadHead headed bad offset is = absurd (headed refl)
   fails_as_bad (BadRecord other) headed bad offset is = inl (ap (λ (o : ℕ). Err (BadRecord o)) (one_bad bytes other offset (bad other refl) is))
 

@@ -129,6 +129,6 @@ IsReadOf bytes journal = (first : Head) × (events : History) × (torn : ℕ) ×
 -- what is read of a journal of this head and these events with so many torn bytes, unless memory runs out
 abbrev pub GivesJournal : Head → History → ℕ → Result Journal JournalFault → Type 0
 GivesJournal first events torn (Ok journal) = IsReadAs first events torn journal
-GivesJournal first events torn (Err Memory) = Unit {0}
+GivesJournal first events torn (Err (Memory _)) = Unit {0}
 GivesJournal first events torn (Err BadHead) = ⊥
 GivesJournal first events torn (Err (BadRecord offset)) = ⊥

@@ -1,4 +1,5 @@
 pub use Rattle.faults.specs.Count
+pub use Rattle.faults.specs.Memory
 pub use Rattle.edge_io.specs.Sink
 pub use Rattle.hex.specs.Hex
 pub use Rattle.sha2.specs.Sha256

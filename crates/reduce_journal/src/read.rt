@@ -1,6 +1,7 @@
 //! Reading a journal back.
 
 ghost use Rattle.std.specs.Prelude.{◌≡◌, ◌↔◌, ◌⊎◌, ◌<◌, ◌^◌, ℕ, ◌+◌, ◌++◌, IfOk, IsErrOf};
+ghost use Rattle.faults.specs.Memory.{ran_out};
 ghost use Rattle.verdict_table.specs.Kept.{SameVerdicts};
 ghost use Rattle.reduce_journal.specs.History.{History, IsHistory, records_of, records_with};
 ghost use Rattle.reduce_journal.specs.Journal.{GivesJournal, IsBadAt, IsHead, IsJournalOf, IsReadOf, IsStart, IsStartOf, LacksHead, head_text};
@@ -42,26 +43,27 @@ pub enum JournalFault {
     BadRecord { offset: u64 },
     /// Memory ran out.
     #[error("out of memory")]
-    Memory,
+    Memory(Memory),
 }
 
 impl From<Memory> for JournalFault {
     ghost use Rattle.reduce_journal.specs.declared.read.JournalFault.TheVariants.{Memory as OutOfMemory};
 
-    ghost from_gives = { λ _ fault. fault ≡ OutOfMemory };
+    ghost from_gives = { λ memory fault. fault ≡ OutOfMemory memory };
 
-    fn from(_: Memory) -> JournalFault {
-        JournalFault::Memory
+    fn from(memory: Memory) -> JournalFault {
+        JournalFault::Memory(memory)
     }
 }
 
 impl<T: Drop> From<AllocFailed<T>> for JournalFault {
+    ghost use Rattle.faults.specs.Memory.{ran_out};
     ghost use Rattle.reduce_journal.specs.declared.read.JournalFault.TheVariants.{Memory as OutOfMemory};
 
-    ghost from_gives = { λ _ fault. fault ≡ OutOfMemory };
+    ghost from_gives = { λ _ fault. fault ≡ OutOfMemory ran_out };
 
-    fn from(_: AllocFailed<T>) -> JournalFault {
-        JournalFault::Memory
+    fn from(refused: AllocFailed<T>) -> JournalFault {
+        JournalFault::Memory(Memory::from(refused))
     }
 }
 
@@ -74,7 +76,7 @@ pub fn read_journal(alloc: Global, bytes: &Bytes) -> Result<Journal, JournalFaul
     ensures bad_head { IsErrOf result JournalFault.BadHead ↔ LacksHead bytes.now }
     ensures bad_record { (offset : ℕ) → IsErrOf result (JournalFault.BadRecord offset) → IsBadAt bytes.now offset }
     ensures each_bad_record { (offset : ℕ) → IsBadAt bytes.now offset
-        → IsErrOf result (JournalFault.BadRecord offset) ⊎ IsErrOf result JournalFault.Memory }
+        → IsErrOf result (JournalFault.BadRecord offset) ⊎ IsErrOf result (JournalFault.Memory ran_out) }
 {
     let Some((head, rest)) = head_at(bytes.as_slice()) else {
         return Err(JournalFault::BadHead);

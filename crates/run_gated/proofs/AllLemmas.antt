@@ -73,11 +73,11 @@ nothing_asked logs = record {
 
 waits_at : (fault : BoardFault) (first : Plan) → WaitsAt (Some (board_fault fault)) first []
 waits_at board.Journal first = tt
-waits_at board.Memory first = tt
+waits_at (board.Memory _) first = tt
 
 quiet_but : (fault : BoardFault) (gates : List SeenGate) → IsQuietBut (Some (board_fault fault)) gates gates
 quiet_but board.Journal gates = refl
-quiet_but board.Memory gates = refl
+quiet_but (board.Memory _) gates = refl
 
 nothing_ran : (workers : ℕ) (may_say : List ℕ → Verdict → Type 0) (kept : KeptVerdicts) (first last : Plan) (fault : BoardFault) (gates : List SeenGate)
     → IsRunBy workers may_say kept first last (Some (board_fault fault)) [] gates gates
@@ -107,7 +107,7 @@ left_at : {J : Type 0} (put_so_far : J → Option Put) (workers : ℕ) (start : 
     → IsRefusedWith put_so_far start refused old new → HasSameName (put_so_far old) (put_so_far new)
     → JournalLeft workers start kept (Some (board_fault refused)) [] (put_so_far old) (put_so_far new)
 left_at put_so_far workers start kept board.Journal old new is same = (same, inl (refl, is))
-left_at put_so_far workers start kept board.Memory old new is same = inr (refl, ap put_so_far is)
+left_at put_so_far workers start kept (board.Memory _) old new is same = inr (refl, ap put_so_far is)
 
 -- the journal of a run without a board
 pub refused_left : {J : Type 0} (put_so_far : J → Option Put) (workers : ℕ) (start : Digest) (kept : KeptVerdicts) (refused : BoardFault)
@@ -139,7 +139,7 @@ one_ends : (start : Digest) (kept : KeptVerdicts) (fault : Option PoolFault) (hi
 one_ends start kept None history old new same empty bytes = written start history old new same empty bytes
 one_ends start kept (Some (Script worker)) history old new same empty bytes = written start history old new same empty bytes
 one_ends start kept (Some Journal) history old new same empty bytes = (same, inr bytes)
-one_ends start kept (Some Memory) history old new same empty bytes = inl (written start history old new same empty bytes)
+one_ends start kept (Some (Memory _)) history old new same empty bytes = inl (written start history old new same empty bytes)
 
 of_kept : (first : Plan) (kept : List Record) (before : History) (failed : Event) → IsDue first kept before failed → IsOfKept (verdict_in kept) failed
 of_kept first kept before (Committed number) due = tt
@@ -160,7 +160,7 @@ several_left workers first start kept None history old new several same empty by
 several_left workers first start kept (Some (Script worker)) history old new several same empty bytes due = written start history old new same empty bytes
 several_left workers first start kept (Some Journal) history old new several same empty bytes due =
     (same, inr (broke_by workers first start kept history new several (due refl)))
-several_left workers first start kept (Some Memory) history old new several same empty bytes due = inl (written start history old new same empty bytes)
+several_left workers first start kept (Some (Memory _)) history old new several same empty bytes due = inl (written start history old new same empty bytes)
 
 -- why several ended
 several_caused : (fault : Option PoolFault) (old new : Reached) → (fault ≡ None → AreQuiet old.gates new.gates)
@@ -169,7 +169,7 @@ several_caused : (fault : Option PoolFault) (old new : Reached) → (fault ≡ N
 several_caused None old new none named rose quiet = record { gates = none refl; journal = quiet (λ is. cc is) }
 several_caused (Some (Script worker)) old new none named rose quiet = (named worker refl, quiet (λ is. cc is))
 several_caused (Some Journal) old new none named rose quiet = rose refl
-several_caused (Some Memory) old new none named rose quiet = quiet (λ is. cc is)
+several_caused (Some (Memory _)) old new none named rose quiet = quiet (λ is. cc is)
 
 module _ {S J G : Type 0} (plan first : S → Plan) (may_say : List ℕ → Verdict → Type 0) (put_so_far : J → Option Put) (journal_faults : J → ℕ)
     (log : G → Option Log) (faults : G → ℕ) (made : BoardState S J) (outcome : Outcome S J) where

@@ -168,7 +168,7 @@ module _ {T : Type 0} (mode : RoundMode T) where
         without_fault Kept minimal quiet (Err run_fault.NotInteresting) is =
             let first = first_no is in
             (first, only_no records one (no_is_first (mode.text mode.start) records first), quiet, whole, committed)
-        without_fault Kept minimal quiet (Err run_fault.Memory) is = (quiet.journal, λ alone. quiet.gates)
+        without_fault Kept minimal quiet (Err (run_fault.Memory _)) is = (quiet.journal, λ alone. quiet.gates)
         without_fault Kept minimal quiet (Err (run_fault.Script worker)) is = absurd is
         without_fault Kept minimal quiet (Err run_fault.Journal) is = absurd is
 
@@ -197,7 +197,7 @@ with_fault mode follows refuses Kept run may_say last (pool.Script worker) ran c
       (ran.alone alone).sequential,
 )
 with_fault mode follows refuses Kept run may_say last pool.Journal ran caused = (caused, λ alone. (ran.alone alone).quiet)
-with_fault mode follows refuses Kept run may_say last pool.Memory ran caused = (caused, λ alone. (ran.alone alone).quiet)
+with_fault mode follows refuses Kept run may_say last (pool.Memory _) ran caused = (caused, λ alone. (ran.alone alone).quiet)
 
 -- how a run ends
 pub run_ends : {T : Type 0} (mode : RoundMode T) → ((V : List ℕ → Option Verdict) → IsTheReduction (plan_first mode) (recursion_of mode) V)
@@ -229,12 +229,12 @@ pub journal_has : (run : Run) (fault : Option PoolFault) (result : StepResult) (
     → JournalHas run answer
 journal_has run None result units bytes record_count (Ok reduced) is ends caused = (ends, caused.journal)
 journal_has run None result units bytes record_count (Err run_fault.NotInteresting) is ends caused = (ends, caused.journal)
-journal_has run None result units bytes record_count (Err run_fault.Memory) is ends caused = (inl ends, caused.journal)
+journal_has run None result units bytes record_count (Err (run_fault.Memory _)) is ends caused = (inl ends, caused.journal)
 journal_has run None result units bytes record_count (Err (run_fault.Script worker)) is ends caused = absurd is
 journal_has run None result units bytes record_count (Err run_fault.Journal) is ends caused = absurd is
 journal_has run (Some (pool.Script worker)) result units bytes record_count answer is ends caused = subst (JournalHas run) (sym is) (ends, caused.1)
 journal_has run (Some pool.Journal) result units bytes record_count answer is ends caused = subst (JournalHas run) (sym is) (ends, caused)
-journal_has run (Some pool.Memory) result units bytes record_count answer is ends caused = subst (JournalHas run) (sym is) (ends, caused)
+journal_has run (Some (pool.Memory _)) result units bytes record_count answer is ends caused = subst (JournalHas run) (sym is) (ends, caused)
 
 -- a run of one worker is one by so many workers
 one_asked : (texts : List (List ℕ)) (log log' : Option Log) → log' ≡ option_map (with_all_asked texts) log → AreAsked texts (log ∷ []) (log' ∷ [])
@@ -247,20 +247,20 @@ pub caused_by : (fault : Option PoolFault) (gate gate' : SeenGate) (journal jour
 caused_by None gate gate' journal journal' caused = record { gates = ap (λ (n : ℕ). n ∷ []) caused.0; journal = caused.1 }
 caused_by (Some (pool.Script worker)) gate gate' journal journal' caused = ((0, caused.0, caused.1), caused.2)
 caused_by (Some pool.Journal) gate gate' journal journal' caused = caused.1
-caused_by (Some pool.Memory) gate gate' journal journal' caused = caused.1
+caused_by (Some (pool.Memory _)) gate gate' journal journal' caused = caused.1
 
 quiet_but : (fault : Option PoolFault) (gate gate' : SeenGate) (journal journal' : ℕ) → IsCaused fault gate.faults gate'.faults journal journal'
     → IsQuietBut fault (gate ∷ []) (gate' ∷ [])
 quiet_but None gate gate' journal journal' caused = ap (λ (n : ℕ). n ∷ []) caused.0
 quiet_but (Some (pool.Script worker)) gate gate' journal journal' caused = tt
 quiet_but (Some pool.Journal) gate gate' journal journal' caused = ap (λ (n : ℕ). n ∷ []) caused.0
-quiet_but (Some pool.Memory) gate gate' journal journal' caused = ap (λ (n : ℕ). n ∷ []) caused.0
+quiet_but (Some (pool.Memory _)) gate gate' journal journal' caused = ap (λ (n : ℕ). n ∷ []) caused.0
 
 waits_at : (fault : Option PoolFault) (first last : Plan) (history : History) → ReducerEnds fault first last (records_of history) → WaitsAt fault first history
 waits_at None first last history ends = tt
 waits_at (Some (pool.Script worker)) first last history ends = ends
 waits_at (Some pool.Journal) first last history ends = tt
-waits_at (Some pool.Memory) first last history ends = tt
+waits_at (Some (pool.Memory _)) first last history ends = tt
 
 has_ended : (fault : Option PoolFault) (first last : Plan) (history : History) → ReducerEnds fault first last (records_of history)
     → (fault ≡ None → last ≡ replay first history) → fault ≡ None → HasEnded last × (last ≡ follow (verdict_in (records_of history)) first)
@@ -302,7 +302,7 @@ pub one_left : (start : Digest) (kept : KeptVerdicts) (fault : Option PoolFault)
 one_left start kept None history old new ends = ends
 one_left start kept (Some (pool.Script worker)) history old new ends = ends
 one_left start kept (Some pool.Journal) history old new ends = part_by start kept history old new ends
-one_left start kept (Some pool.Memory) history old new ends = ends
+one_left start kept (Some (pool.Memory _)) history old new ends = ends
 
 -- the same answer by other names of the numbers
 pub answers_at : (fault : Option PoolFault) (result : StepResult) (units units' bytes bytes' record_count record_count' : ℕ) (answer : Result Reduced RunFault)

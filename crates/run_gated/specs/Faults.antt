@@ -13,13 +13,13 @@ use Rattle.run_gated.specs.declared.fault.RunFault.TheVariants.{Script, Journal,
 abbrev pub fault_kept : PoolFault → RunFault
 fault_kept (pool.Script worker) = Script worker
 fault_kept pool.Journal = Journal
-fault_kept pool.Memory = Memory
+fault_kept (pool.Memory memory) = Memory memory
 
 -- that of the gate of this worker, which wasn't opened, and of a journal
 abbrev pub fault_of : ℕ → GateFault → RunFault
 fault_of worker GateFailed = Script worker
-fault_of worker GateMemory = Memory
+fault_of worker (GateMemory memory) = Memory memory
 
 abbrev pub fault_of_opening : OpenFault → RunFault
 fault_of_opening OpenFailed = Journal
-fault_of_opening OpenMemory = Memory
+fault_of_opening (OpenMemory memory) = Memory memory

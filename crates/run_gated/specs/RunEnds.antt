@@ -77,7 +77,7 @@ RunFailsIn mode run (Script worker) =
     GateFailed worker run.before.gates run.after.gates × IsQuiet run.before.journal run.after.journal
     × (run.workers ≡ 1 → IsUnfinishedIn (verdict_in run.kept) mode run.history)
 RunFailsIn mode run Journal = CallFailed run.before.journal run.after.journal × (run.workers ≡ 1 → AreQuiet run.before.gates run.after.gates)
-RunFailsIn mode run Memory = IsQuiet run.before.journal run.after.journal × (run.workers ≡ 1 → AreQuiet run.before.gates run.after.gates)
+RunFailsIn mode run (Memory _) = IsQuiet run.before.journal run.after.journal × (run.workers ≡ 1 → AreQuiet run.before.gates run.after.gates)
 
 -- how it ended, by what it answered: with the text that the reduction ends with, and what the report says of it, or why not
 abbrev pub RunEndsIn : {T : Type 0} → RoundMode T → (T → Type 0) → Run → Result Reduced RunFault → Type 0
@@ -101,7 +101,7 @@ JournalHas run (Err (Script worker)) = IsWrittenWhole run
 JournalHas run (Err Journal) =
     HasPartBy run.workers run.start (verdict_in run.kept) run.history run.before.journal.shown run.after.journal.shown
     × CallFailed run.before.journal run.after.journal
-JournalHas run (Err Memory) =
+JournalHas run (Err (Memory _)) =
     (HasWritten run.start run.history run.before.journal.shown run.after.journal.shown
     ⊎ HasNothing run.history run.before.journal.shown run.after.journal.shown)
     × IsQuiet run.before.journal run.after.journal

@@ -4,6 +4,7 @@ ghost use Rattle.std.specs.Prelude.{◌≡◌};
 ghost use Rattle.run_gated.specs.Faults.{fault_of};
 
 use edge_io::OpenFault;
+use faults::Memory;
 use ordered_commit::PoolFault;
 use script_gate_trait::GateFault;
 use std::alloc::AllocError;
@@ -18,7 +19,7 @@ pub enum RunFault {
     /// A call of the journal failed.
     Journal,
     /// Memory ran out.
-    Memory,
+    Memory(Memory),
 }
 
 impl From<PoolFault> for RunFault {
@@ -31,7 +32,7 @@ impl From<PoolFault> for RunFault {
         match fault {
             PoolFault::Script { worker } => RunFault::Script { worker },
             PoolFault::Journal => RunFault::Journal,
-            PoolFault::Memory => RunFault::Memory,
+            PoolFault::Memory(memory) => RunFault::Memory(memory),
         }
     }
 }
@@ -43,7 +44,7 @@ impl RunFault {
     {
         match fault {
             GateFault::Failed => RunFault::Script { worker },
-            GateFault::Memory => RunFault::Memory,
+            GateFault::Memory(memory) => RunFault::Memory(memory),
         }
     }
 }
@@ -57,18 +58,19 @@ impl From<OpenFault> for RunFault {
     fn from(fault: OpenFault) -> RunFault {
         match fault {
             OpenFault::Failed => RunFault::Journal,
-            OpenFault::Memory => RunFault::Memory,
+            OpenFault::Memory(memory) => RunFault::Memory(memory),
         }
     }
 }
 
 impl From<AllocError> for RunFault {
     ghost use Rattle.std.specs.Prelude.{◌≡◌};
+    ghost use Rattle.faults.specs.Memory.{ran_out};
     ghost use Rattle.run_gated.specs.declared.fault.RunFault.{RunFault};
 
-    ghost from_gives = { λ _ fault. fault ≡ RunFault.Memory };
+    ghost from_gives = { λ _ fault. fault ≡ RunFault.Memory ran_out };
 
-    fn from(_: AllocError) -> RunFault {
-        RunFault::Memory
+    fn from(refused: AllocError) -> RunFault {
+        RunFault::Memory(Memory::from(refused))
     }
 }

@@ -105,7 +105,7 @@ module _ (K : KeptVerdicts) (first : Plan) (h : History) (distinct : IsDistinct 
   is_sequential (Some (Script worker)) goes ended waits =
       whole goes (after_unanswered K (verdict_in (records_of h)) (records_of h) (replay first h) waits.0 waits.1 waits.2)
   is_sequential (Some Journal) goes ended waits = is_beginning goes
-  is_sequential (Some Memory) goes ended waits = is_beginning goes
+  is_sequential (Some (Memory _)) goes ended waits = is_beginning goes
 
   follows_here : LeadsOn first h → follow (verdict_in (records_of h)) first ≡ follow (verdict_in (records_of h)) (replay first h)
   follows_here leads = leads (verdict_in (records_of h)) (extends_itself (records_of h) distinct)
@@ -123,7 +123,7 @@ module _ (K : KeptVerdicts) (first : Plan) (h : History) (distinct : IsDistinct 
       is_some (asked (follow (verdict_in (records_of h)) first)) waits.0
       (ap asked (follows_here leads ∙ stays (verdict_in (records_of h)) (replay first h) waits.0 waits.1 waits.2) ∙ waits.1)
   reducer_ends (Some Journal) plan leads replayed ended waits = tt
-  reducer_ends (Some Memory) plan leads replayed ended waits = tt
+  reducer_ends (Some (Memory _)) plan leads replayed ended waits = tt
 
 -- where the run ended, it has begun with the first text, and with its only record where that ended it
 pub has_beginning : (K : KeptVerdicts) (fault : Option PoolFault) (first : Plan) (h : History) → IsSequential K fault first h
@@ -131,7 +131,7 @@ pub has_beginning : (K : KeptVerdicts) (fault : Option PoolFault) (first : Plan)
 has_beginning K None first h is = ([], sym is ∙ sym (append-nil h))
 has_beginning K (Some (Script worker)) first h is = ([], sym is ∙ sym (append-nil h))
 has_beginning K (Some Journal) first h is = is
-has_beginning K (Some Memory) first h is = is
+has_beginning K (Some (Memory _)) first h is = is
 
 pub begins_with : (K : KeptVerdicts) (fault : Option PoolFault) (first : Plan) (h : History) → IsSequential K fault first h → BeginsWith first (records_of h)
 begins_with K fault first h is = let part = has_beginning K fault first h is in begins (verdict_in (records_of h)) K first h part.0 part.1

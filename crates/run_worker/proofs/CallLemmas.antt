@@ -7,6 +7,7 @@ use Rattle.std.proofs.lemmas.Map.Keys.{IsDistinct-push}
 use Rattle.std.specs.List.{IsDistinct, list_any}
 use Rattle.std.specs.Str.{bytes_eq}
 use Rattle.faults.specs.Count.{Rose}
+use Rattle.faults.specs.Memory.{ran_out}
 use Rattle.edge_io.specs.Sink.{Put}
 use Rattle.script_gate_trait.specs.declared.log.Log.{Log}
 use Rattle.verdict_table.specs.declared.record.Record.{Record}
@@ -155,15 +156,15 @@ module _ {S J : Type 0} (first plan : S → Plan) (put : J → Option Put) (faul
           ends.part (all_before ends.could.0) in
           stopped ends.could.0 history Journal (ap (λ (state : BoardState S J). state.fault) ends.else_same) has tt
           (counts.0, subst (λ (n : ℕ). Rose n (faults new.journal)) counts.1 (failed refl))
-      commit_way (Err board.Memory) (inl ends) failed quiet =
+      commit_way (Err (board.Memory _)) (inl ends) failed quiet =
           let counts = quiet_before ends.could.0 in
           let has : HasNow None new.history new.journal =
           subst (λ (state : BoardState S J). HasNow None state.history state.journal) (sym ends.else_same) (all_before ends.could.0) in
-          stopped ends.could.0 (ap (λ (state : BoardState S J). state.history) ends.else_same) Memory
+          stopped ends.could.0 (ap (λ (state : BoardState S J). state.history) ends.else_same) (Memory ran_out)
           (ap (λ (state : BoardState S J). state.fault) ends.else_same) has tt (counts.0, quiet (λ is. cc is) ∙ counts.1)
-      commit_way (Err board.Memory) (inr ends) failed quiet =
+      commit_way (Err (board.Memory _)) (inr ends) failed quiet =
           let counts = quiet_before ends.could.0 in
-          committed ends.number ends.could ends.history (Some Memory) ends.fault (λ none. absurd (cc (sym ends.fault ∙ none)))
+          committed ends.number ends.could ends.history (Some (Memory ran_out)) ends.fault (λ none. absurd (cc (sym ends.fault ∙ none)))
           (more_written ends.number ends.could.0 ends.history ends.written) tt (counts.0, quiet (λ is. cc is) ∙ counts.1)
 
     -- ---- a recall
@@ -259,7 +260,7 @@ module _ {S J : Type 0} (first plan : S → Plan) (put : J → Option Put) (faul
         })
         ends.could.0 history Journal (ap (λ (s : BoardState S J). s.fault) same) has tt
         (counts.0, subst (λ (n : ℕ). Rose n (faults new.journal)) counts.1 (failed refl))
-    recall_way (Err board.Memory) ends name failed quiet =
+    recall_way (Err (board.Memory _)) ends name failed quiet =
         let counts = quiet_before ends.0.0 in
         let same = ends.1 in
         let has : HasNow None new.history new.journal =
@@ -273,5 +274,5 @@ module _ {S J : Type 0} (first plan : S → Plan) (put : J → Option Put) (faul
           same_kept = ap (λ (s : BoardState S J). s.kept) same;
           name = name;
         })
-        ends.0.0 (ap (λ (s : BoardState S J). s.history) same) Memory (ap (λ (s : BoardState S J). s.fault) same) has tt
+        ends.0.0 (ap (λ (s : BoardState S J). s.history) same) (Memory ran_out) (ap (λ (s : BoardState S J). s.fault) same) has tt
         (counts.0, quiet (λ is. cc is) ∙ counts.1)

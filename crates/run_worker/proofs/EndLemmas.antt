@@ -79,7 +79,7 @@ none_history may_say K first history none = subst (IsHistoryOf may_say K first) 
 
 begins_whole : (fault : BoardFault) (K : KeptVerdicts) (first : Plan) → IsSequential K (Some (board_fault fault)) first []
 begins_whole board.Journal K first = (own_history K first [], refl)
-begins_whole board.Memory K first = (own_history K first [], refl)
+begins_whole (board.Memory _) K first = (own_history K first [], refl)
 
 pub none_sequential : (fault : BoardFault) (K : KeptVerdicts) (first : Plan) (ended : Option PoolFault) (history : History) → ended ≡ Some (board_fault fault)
     → history ≡ [] → IsSequential K ended first history

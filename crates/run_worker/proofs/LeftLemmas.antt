@@ -6,6 +6,7 @@ use Rattle.std.specs.Prelude.{if◌then◌else◌}
 use Rattle.std.specs.List.{list_any}
 use Rattle.std.specs.Result.{result_unwrap_or}
 use Rattle.std.specs.Str.{bytes_eq}
+use Rattle.faults.specs.Memory.{ran_out}
 use Rattle.edge_io.specs.Sink.{Put}
 use Rattle.gate_permits.specs.Permits.{ClaimedText}
 use Rattle.script_gate_trait.specs.declared.gate.Verdict.{Verdict}
@@ -149,8 +150,8 @@ module _ {S J : Type 0} (plan : S → Plan) (put : J → Option Put) (old new : 
   most_by_commit (Ok true) ends = not_more plan old new (fewer_by_commit ends)
   most_by_commit (Ok false) ends = same_moves plan old new ends.1
   most_by_commit (Err board.Journal) ends = none_by_fault plan old new Journal (ap (λ (state : BoardState S J). state.fault) ends.else_same)
-  most_by_commit (Err board.Memory) (inl ends) = none_by_fault plan old new Memory (ap (λ (state : BoardState S J). state.fault) ends.else_same)
-  most_by_commit (Err board.Memory) (inr ends) = none_by_fault plan old new Memory ends.fault
+  most_by_commit (Err (board.Memory _)) (inl ends) = none_by_fault plan old new (Memory ran_out) (ap (λ (state : BoardState S J). state.fault) ends.else_same)
+  most_by_commit (Err (board.Memory _)) (inr ends) = none_by_fault plan old new (Memory ran_out) ends.fault
 
   -- nothing more can be committed where it answers false
   pub settled_by_false : (committed : Bool) → committed ≡ false → CommitEnds plan put (Ok committed) old new → HasNoCommit plan new
@@ -162,8 +163,8 @@ module _ {S J : Type 0} (plan : S → Plan) (put : J → Option Put) (old new : 
   none_before (Ok true) ends none = ends.could.0
   none_before (Ok false) ends none = subst (λ (state : BoardState S J). state.fault ≡ None) ends.1 none
   none_before (Err board.Journal) ends none = ends.could.0
-  none_before (Err board.Memory) (inl ends) none = ends.could.0
-  none_before (Err board.Memory) (inr ends) none = ends.could.0
+  none_before (Err (board.Memory _)) (inl ends) none = ends.could.0
+  none_before (Err (board.Memory _)) (inr ends) none = ends.could.0
 
   pub free_by_commit : (result : Result Bool BoardFault) → CommitEnds plan put result old new → new.table ≡ old.table → new.seats ≡ old.seats → (seat : Seat)
       → IsFree seat old → IsFree seat new
@@ -196,7 +197,7 @@ module _ {S J : Type 0} (plan : S → Plan) (put : J → Option Put) (old new : 
   most_by_recall (Ok true) ends = not_more plan old new (fewer_by_recall ends)
   most_by_recall (Ok false) ends = same_moves plan old new ends.1
   most_by_recall (Err board.Journal) ends = none_by_fault plan old new Journal (ap (λ (state : BoardState S J). state.fault) ends.else_same)
-  most_by_recall (Err board.Memory) ends = none_by_fault plan old new Memory (ap (λ (state : BoardState S J). state.fault) ends.1)
+  most_by_recall (Err (board.Memory _)) ends = none_by_fault plan old new (Memory ran_out) (ap (λ (state : BoardState S J). state.fault) ends.1)
 
   -- where no fault is kept after a recall, none was before, and no claim was opened
   pub free_by_recall : (result : Result Bool BoardFault) → RecallEnds plan put result old new → new.seats ≡ old.seats → (seat : Seat)
@@ -213,7 +214,7 @@ module _ {S J : Type 0} (plan : S → Plan) (put : J → Option Put) (old new : 
       claims_before (Ok false) ends none =
           (subst (λ (state : BoardState S J). state.fault ≡ None) ends.1 none, ap (λ (state : BoardState S J). state.table.claims) ends.1)
       claims_before (Err board.Journal) ends none = (ends.could.0, ap (λ (state : BoardState S J). state.table.claims) ends.else_same)
-      claims_before (Err board.Memory) ends none = (ends.0.0, ap (λ (state : BoardState S J). state.table.claims) ends.1)
+      claims_before (Err (board.Memory _)) ends none = (ends.0.0, ap (λ (state : BoardState S J). state.table.claims) ends.1)
 
 -- ---- neither
 
@@ -226,7 +227,7 @@ module _ {S J : Type 0} (plan : S → Plan) (put : J → Option Put) (old mid ne
   not_recalled (Ok true) not ends = absurd (cc not)
   not_recalled (Ok false) not ends = subst (λ (state : BoardState S J). CanRecall plan state → ⊥) (sym ends.1) ends.0
   not_recalled (Err board.Journal) not ends = (stopped mid Journal (ap (λ (state : BoardState S J). state.fault) ends.else_same)).1
-  not_recalled (Err board.Memory) not ends = (stopped mid Memory (ap (λ (state : BoardState S J). state.fault) ends.1)).1
+  not_recalled (Err (board.Memory _)) not ends = (stopped mid (Memory ran_out) (ap (λ (state : BoardState S J). state.fault) ends.1)).1
 
   -- where nothing was recalled, and then nothing committed, nothing can be
   pub settled_by : (recalled committed : Result Bool BoardFault) → result_unwrap_or recalled false ≡ false → RecallEnds plan put recalled old mid
@@ -237,8 +238,9 @@ module _ {S J : Type 0} (plan : S → Plan) (put : J → Option Put) (old mid ne
     subst (λ (state : BoardState S J). CanRecall plan state → ⊥) (sym ends.1) (not_recalled recalled not first),
   )
   settled_by recalled (Err board.Journal) not first never ends = stopped new Journal (ap (λ (state : BoardState S J). state.fault) ends.else_same)
-  settled_by recalled (Err board.Memory) not first never (inl ends) = stopped new Memory (ap (λ (state : BoardState S J). state.fault) ends.else_same)
-  settled_by recalled (Err board.Memory) not first never (inr ends) = stopped new Memory ends.fault
+  settled_by recalled (Err (board.Memory _)) not first never (inl ends) =
+      stopped new (Memory ran_out) (ap (λ (state : BoardState S J). state.fault) ends.else_same)
+  settled_by recalled (Err (board.Memory _)) not first never (inr ends) = stopped new (Memory ran_out) ends.fault
 
 -- a call that answers true has done something
 pub made : {S J : Type 0} (plan : S → Plan) (put : J → Option Put) (old new : BoardState S J) (result : Result Bool BoardFault)

@@ -20,14 +20,14 @@ abbrev pub ReducerEnds : Option PoolFault → Plan → Plan → List Record → 
 ReducerEnds None first plan records = HasEnded plan × (plan ≡ follow (verdict_in records) first)
 ReducerEnds (Some (Script worker)) first plan records = IsSome (asked (follow (verdict_in records) first))
 ReducerEnds (Some Journal) first plan records = Unit {0}
-ReducerEnds (Some Memory) first plan records = Unit {0}
+ReducerEnds (Some (Memory _)) first plan records = Unit {0}
 
 -- A call of the gate failed, a put into the journal, or neither did: the counts before and after, of the gate and of the journal.
 abbrev pub IsCaused : Option PoolFault → ℕ → ℕ → ℕ → ℕ → Type 0
 IsCaused None gate gate' journal journal' = (gate' ≡ gate) × (journal' ≡ journal)
 IsCaused (Some (Script worker)) gate gate' journal journal' = (worker ≡ 1) × Rose gate gate' × (journal' ≡ journal)
 IsCaused (Some Journal) gate gate' journal journal' = (gate' ≡ gate) × Rose journal journal'
-IsCaused (Some Memory) gate gate' journal journal' = (gate' ≡ gate) × (journal' ≡ journal)
+IsCaused (Some (Memory _)) gate gate' journal journal' = (gate' ≡ gate) × (journal' ≡ journal)
 
 -- the journal's bytes are those of the history, after what was put before, where that is visible
 abbrev pub HasWritten : Digest → History → Option Put → Option Put → Type 0

@@ -34,7 +34,7 @@ abbrev pub IsSequential : KeptVerdicts → Option PoolFault → Plan → History
 IsSequential kept None first history = history ≡ own_history kept first history
 IsSequential kept (Some (Script worker)) first history = history ≡ own_history kept first history
 IsSequential kept (Some Journal) first history = IsBeginning history (own_history kept first history)
-IsSequential kept (Some Memory) first history = IsBeginning history (own_history kept first history)
+IsSequential kept (Some (Memory _)) first history = IsBeginning history (own_history kept first history)
 
 -- the first record is of the text that the reducer asks first
 abbrev pub BeginsWith : Plan → List Record → Type 0

@@ -13,4 +13,4 @@ abbrev pub AreJournalBytes : Digest → KeptVerdicts → Option PoolFault → Hi
 AreJournalBytes start kept None history bytes = bytes ≡ journal_text start history
 AreJournalBytes start kept (Some (Script worker)) history bytes = bytes ≡ journal_text start history
 AreJournalBytes start kept (Some Journal) history bytes = BrokeAtEnd start kept history bytes
-AreJournalBytes start kept (Some Memory) history bytes = bytes ≡ journal_text start history
+AreJournalBytes start kept (Some (Memory _)) history bytes = bytes ≡ journal_text start history

@@ -1,8 +1,8 @@
 ghost use Rattle.std.specs.Prelude.{◌≡◌, ◌≤◌, ◌↔◌, [], ◌∷◌, ℕ, List, None, Some, false, pos, IfOk, OnOk, OnErr, IsErrOf};
 ghost use Rattle.std.specs.String.{string_bytes};
 ghost use Rattle.std.specs.Process.{clears_env, command_args, command_dir, command_program, command_var, exit_code};
+ghost use Rattle.faults.specs.Memory.{IsOutOfMemory, ran_out};
 ghost use Rattle.edge_io.specs.Calls.{CountsFault};
-ghost use Rattle.edge_io.specs.Machine.{IsOutOfMemory};
 ghost use Rattle.script_gate.specs.Script.{file_of, folder_of, path_in, script_of};
 
 use edge_io::{count_failure, write_whole};
@@ -182,15 +182,16 @@ fn judge<R: Files + Processes>(
 
 // The fault of a call that failed, counted and kept unless the program itself had no memory.
 fn fault_of(faults: &mut u64, last: &mut Option<ScriptFault>, fault: ScriptFault) -> GateFault
-    ensures memory { (result ≡ GateFault.Memory) ↔ IsOutOfMemory fault.error }
+    ensures memory { (result ≡ GateFault.Memory ran_out) ↔ IsOutOfMemory fault.error }
     ensures faults { CountsFault (result ≡ GateFault.Failed) faults.old faults.new }
     ensures count { faults.old ≤ faults.new }
 {
-    if count_failure(faults, &fault.error) {
-        *last = Some(fault);
-        GateFault::Failed
-    } else {
-        GateFault::Memory
+    match count_failure(faults, &fault.error) {
+        Some(memory) => GateFault::Memory(memory),
+        None => {
+            *last = Some(fault);
+            GateFault::Failed
+        }
     }
 }
 

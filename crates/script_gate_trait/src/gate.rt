@@ -21,16 +21,16 @@ pub enum GateFault {
     Failed,
     /// Memory ran out; nothing is counted.
     #[error("out of memory")]
-    Memory,
+    Memory(Memory),
 }
 
 impl From<Memory> for GateFault {
     ghost use Rattle.script_gate_trait.specs.declared.gate.GateFault.TheVariants.{Memory as OutOfMemory};
 
-    ghost from_gives = { λ _ fault. fault ≡ OutOfMemory };
+    ghost from_gives = { λ memory fault. fault ≡ OutOfMemory memory };
 
-    fn from(_: Memory) -> GateFault {
-        GateFault::Memory
+    fn from(memory: Memory) -> GateFault {
+        GateFault::Memory(memory)
     }
 }
 

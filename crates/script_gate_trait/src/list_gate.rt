@@ -1,4 +1,5 @@
 ghost use Rattle.std.specs.Prelude.{◌≡◌, ◌≤◌, ◌↔◌, Some, IfOk, OnOk, OnErr, IsErrOf, IsOkUnless};
+ghost use Rattle.faults.specs.Memory.{ran_out};
 ghost use Rattle.faults.specs.Count.{one_more};
 ghost use Rattle.script_gate_trait.specs.Listed.{moved_on, next_answer, verdict_of};
 ghost use Rattle.script_gate_trait.specs.Log.{empty_log, with_asked, with_opening};
@@ -93,7 +94,7 @@ impl Gate for ListGate {
         ensures opened { OnOk result
             (self.new ≡ record self.old { log = with_opening work.now script.now name.now number self.old.log }) }
         ensures refused { OnErr result (self.new ≡ self.old) }
-        ensures never_fails { IsOkUnless result GateFault.Memory }
+        ensures never_fails { IsOkUnless result (GateFault.Memory ran_out) }
     {
         self.log
             .set_opening(self.alloc, work, script, name, number)?;
@@ -109,7 +110,7 @@ impl Gate for ListGate {
         ensures moved { IsErrOf result GateFault.Failed
             → self.new ≡ record (moved_on self.old) { faults = one_more self.old.faults } }
         ensures count { self.old.faults ≤ self.new.faults }
-        ensures memory { IsErrOf result GateFault.Memory → self.new ≡ self.old }
+        ensures memory { IsErrOf result (GateFault.Memory ran_out) → self.new ≡ self.old }
     {
         let verdict = match self.next_answer() {
             Said::Yes => Verdict::Yes,

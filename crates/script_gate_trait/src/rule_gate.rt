@@ -1,5 +1,6 @@
 ghost use Rattle.std.specs.Prelude.{◌≡◌, None, Some, IsOk, IsOkUnless, IfOk, OnOk, OnErr, option_map, if◌then◌else◌};
 ghost use Rattle.std.specs.Option.{option_copied};
+ghost use Rattle.faults.specs.Memory.{ran_out};
 ghost use Rattle.script_gate_trait.specs.Rule.{occur_all, rule_verdict};
 ghost use Rattle.script_gate_trait.specs.Log.{empty_log, with_asked, with_opening};
 
@@ -61,7 +62,7 @@ impl<const R: u64> Gate for RuleGate<R> {
         ensures opened { OnOk result
             (self.new ≡ option_map (with_opening work.now script.now name.now number) self.old) }
         ensures refused { OnErr result (self.new ≡ self.old) }
-        ensures never_fails { IsOkUnless result GateFault.Memory }
+        ensures never_fails { IsOkUnless result (GateFault.Memory ran_out) }
         ensures silent { self.old ≡ None → IsOk result }
     {
         if let Some(log) = &mut self.log {
@@ -74,7 +75,7 @@ impl<const R: u64> Gate for RuleGate<R> {
         ensures verdict { IfOk result (λ verdict. verdict ≡ rule_verdict R text.now) }
         ensures asked { OnOk result (self.new ≡ option_map (with_asked text.now) self.old) }
         ensures refused { OnErr result (self.new ≡ self.old) }
-        ensures never_fails { IsOkUnless result GateFault.Memory }
+        ensures never_fails { IsOkUnless result (GateFault.Memory ran_out) }
         ensures silent { self.old ≡ None → IsOk result }
     {
         if let Some(log) = &mut self.log {

@@ -34,6 +34,6 @@ pub fn keeps_tokens(
     match lexer.lex(text) {
         Ok(found) => Ok(are_same(text, &found.items, start, &tokens.items, kept)),
         Err(LexFault::NoToken { .. }) => Ok(false),
-        Err(LexFault::Memory) => Err(Memory),
+        Err(LexFault::Memory(memory)) => Err(memory),
     }
 }

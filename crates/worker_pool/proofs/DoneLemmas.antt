@@ -5,6 +5,7 @@ use Rattle.std.proofs.lemmas.List.{length-map}
 use Rattle.std.specs.List.{range_with_len}
 use Rattle.std.specs.Option.{IsSomeAnd}
 use Rattle.faults.specs.Count.{Rose}
+use Rattle.faults.specs.Memory.{ran_out}
 use Rattle.script_gate_trait.specs.declared.log.Log.{Log}
 use Rattle.verdict_table.specs.declared.record.Record.{Record}
 use Rattle.verdict_table.specs.TableState.{texts_of}
@@ -103,7 +104,7 @@ module _ {G : Type 0} (log : G → Option Log) (faults : G → ℕ) where
 
   -- nobody did anything
   none_at : (workers : List (Worker G)) (i : ℕ) (d : Worker G) → i < length workers → (slice_index_or workers i d).seat ≡ None
-      → IsDone log faults (Some Memory) (suc i) (slice_index_or (records_made (new_seats (length workers))) i 0) (slice_index_or workers i d)
+      → IsDone log faults (Some (Memory ran_out)) (suc i) (slice_index_or (records_made (new_seats (length workers))) i 0) (slice_index_or workers i d)
       (slice_index_or workers i d)
   none_at workers i d less unseated =
       let n = length workers in
@@ -118,7 +119,7 @@ module _ {G : Type 0} (log : G → Option Log) (faults : G → ℕ) where
       }
 
   pub none_done : (workers : List (Worker G)) (history : History) → history ≡ [] → All (λ w. w.seat ≡ None) workers
-      → AreDone log faults (Some Memory) history workers workers
+      → AreDone log faults (Some (Memory ran_out)) history workers workers
   none_done workers history none unseated = record {
     counts = records_made (new_seats (length workers));
     one_each = length-map (new_seats (length workers)) (λ (s : Seat). s.records) ∙ new_length (length workers);

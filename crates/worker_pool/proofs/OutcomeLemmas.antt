@@ -103,7 +103,7 @@ pub quiet_by : (fault : Option PoolFault) (gate gate' journal journal' : â„•) â†
 quiet_by None gate gate' journal journal' caused other = caused.1
 quiet_by (Some (Script worker)) gate gate' journal journal' caused other = caused.2
 quiet_by (Some Journal) gate gate' journal journal' caused other = absurd (other refl)
-quiet_by (Some Memory) gate gate' journal journal' caused other = caused.1
+quiet_by (Some (Memory _)) gate gate' journal journal' caused other = caused.1
 
 -- ---- one worker
 

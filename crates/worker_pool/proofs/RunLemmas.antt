@@ -5,6 +5,7 @@ use Rattle.std.proofs.lemmas.List.{length-map}
 use Rattle.std.proofs.lemmas.List.Elements.{All-cons, All-head, All-nil, All-tail}
 use Rattle.std.specs.Prelude.{OnErr, OnOk}
 use Rattle.faults.specs.Count.{Rose}
+use Rattle.faults.specs.Memory.{ran_out}
 use Rattle.faults.specs.declared.Memory.{Memory as OutOfMemory}
 use Rattle.edge_io.specs.Sink.{Put}
 use Rattle.edge_io.specs.declared.sink.SinkFault.{SinkFault}
@@ -38,22 +39,22 @@ use Rattle.worker_pool.proofs.StartLemmas.{recalled_alone, record_alone, taken_a
 -- a fault of an ask that is kept isn't one of the journal, and takes the place of none
 kept_is : (o : Option PoolFault) (worker : ℕ) (fault : GateFault) → Some (kept_fault o (ask_fault worker fault)) ≡ Some Journal → o ≡ Some Journal
 kept_is None worker gate.Failed is = absurd (cc is)
-kept_is None worker gate.Memory is = absurd (cc is)
+kept_is None worker (gate.Memory _) is = absurd (cc is)
 kept_is (Some Journal) worker gate.Failed is = refl
-kept_is (Some Journal) worker gate.Memory is = refl
-kept_is (Some Memory) worker gate.Failed is = is
-kept_is (Some Memory) worker gate.Memory is = is
+kept_is (Some Journal) worker (gate.Memory _) is = refl
+kept_is (Some (Memory _)) worker gate.Failed is = is
+kept_is (Some (Memory _)) worker (gate.Memory _) is = is
 kept_is (Some (Script other)) worker gate.Failed is = is
-kept_is (Some (Script other)) worker gate.Memory is = is
+kept_is (Some (Script other)) worker (gate.Memory _) is = is
 
 is_kept : (o : Option PoolFault) (worker : ℕ) (fault : GateFault) → o ≡ Some Journal → Some (kept_fault o (ask_fault worker fault)) ≡ Some Journal
 is_kept None worker fault is = absurd (cc is)
 is_kept (Some Journal) worker gate.Failed is = refl
-is_kept (Some Journal) worker gate.Memory is = refl
-is_kept (Some Memory) worker gate.Failed is = is
-is_kept (Some Memory) worker gate.Memory is = is
+is_kept (Some Journal) worker (gate.Memory _) is = refl
+is_kept (Some (Memory _)) worker gate.Failed is = is
+is_kept (Some (Memory _)) worker (gate.Memory _) is = is
 is_kept (Some (Script other)) worker gate.Failed is = is
-is_kept (Some (Script other)) worker gate.Memory is = is
+is_kept (Some (Script other)) worker (gate.Memory _) is = is
 
 -- no ask of these seats failed
 abbrev pub Unfailed : List Seat → Type 0
@@ -135,12 +136,12 @@ module _ {S J : Type 0} (first plan : S → Plan) (put : J → Option Put) (faul
   run_commit (Err board.Journal) ends seats digest verdicts front name table failed quiet =
       broke digest verdicts front name (ap length seats) (not_before ends.could.0) (ap (λ (state : BoardState S J). state.fault) ends.else_same) (failed refl)
       (same_start table)
-  run_commit (Err board.Memory) (inl ends) seats digest verdicts front name table failed quiet =
-      let is : new.fault ≡ Some Memory = ap (λ (state : BoardState S J). state.fault) ends.else_same in
+  run_commit (Err (board.Memory _)) (inl ends) seats digest verdicts front name table failed quiet =
+      let is : new.fault ≡ Some (Memory ran_out) = ap (λ (state : BoardState S J). state.fault) ends.else_same in
       still digest verdicts front name (ap length seats) (quiet (λ is. cc is)) (λ j. absurd (cc (sym is ∙ j))) (λ j. absurd (not_before ends.could.0 j))
       (same_start table)
       (λ none. absurd (cc (sym is ∙ none)))
-  run_commit (Err board.Memory) (inr ends) seats digest verdicts front name table failed quiet =
+  run_commit (Err (board.Memory _)) (inr ends) seats digest verdicts front name table failed quiet =
       still digest verdicts front name (ap length seats) (quiet (λ is. cc is)) (λ j. absurd (cc (sym ends.fault ∙ j))) (λ j. absurd (not_before ends.could.0 j))
       (same_start table) (λ none. absurd (cc (sym ends.fault ∙ none)))
 
@@ -166,9 +167,9 @@ module _ {S J : Type 0} (first plan : S → Plan) (put : J → Option Put) (faul
       broke (ap (λ (state : BoardState S J). state.start) same) (ap (λ (state : BoardState S J). state.kept) same)
       (ap (λ (state : BoardState S J). first state.front) same) name (ap (λ (state : BoardState S J). length state.seats) same) (not_before ends.could.0)
       (ap (λ (state : BoardState S J). state.fault) same) (failed refl) (same_start (ap (λ (state : BoardState S J). state.table) same))
-  run_recall may_say kept (Err board.Memory) ends name failed quiet =
+  run_recall may_say kept (Err (board.Memory _)) ends name failed quiet =
       let same = ends.1 in
-      let is : new.fault ≡ Some Memory = ap (λ (state : BoardState S J). state.fault) same in
+      let is : new.fault ≡ Some (Memory ran_out) = ap (λ (state : BoardState S J). state.fault) same in
       still (ap (λ (state : BoardState S J). state.start) same) (ap (λ (state : BoardState S J). state.kept) same)
       (ap (λ (state : BoardState S J). first state.front) same) name (ap (λ (state : BoardState S J). length state.seats) same) (quiet (λ j. cc j))
       (λ j. absurd (cc (sym is ∙ j))) (λ j. absurd (not_before ends.0.0 j)) (same_start (ap (λ (state : BoardState S J). state.table) same))

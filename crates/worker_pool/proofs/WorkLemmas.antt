@@ -76,8 +76,8 @@ module _ (log : Option Log) (faults : ℕ) where
   failed_or : (fault : GateFault) (failed : Bool) (faults' : ℕ) → (fault ≡ gate.Failed → Rose faults faults') → (failed || is_failure fault) ≡ true
       → (failed ≡ true) ⊎ Rose faults faults'
   failed_or gate.Failed failed faults' rose is = inr (rose refl)
-  failed_or gate.Memory true faults' rose is = inl refl
-  failed_or gate.Memory false faults' rose is = absurd (cc is)
+  failed_or (gate.Memory _) true faults' rose is = inl refl
+  failed_or (gate.Memory _) false faults' rose is = absurd (cc is)
 
   stays_so : (fault : GateFault) (failed : Bool) → failed ≡ true → (failed || is_failure fault) ≡ true
   stays_so fault true is = refl
@@ -87,7 +87,7 @@ module _ (log : Option Log) (faults : ℕ) where
       → faults' ≡ faults
   not_so gate.Failed true faults' quiet is = absurd (cc is)
   not_so gate.Failed false faults' quiet is = absurd (cc is)
-  not_so gate.Memory failed faults' quiet is = quiet (λ e. cc e)
+  not_so (gate.Memory _) failed faults' quiet is = quiet (λ e. cc e)
 
   pub worked_give_up : (fault : GateFault) (seat seat' : Seat) (log' : Option Log) (faults' : ℕ) → seat' ≡ without_claim fault seat → log' ≡ log
       → faults ≤ faults' → (fault ≡ gate.Failed → Rose faults faults') → (fault ≢ gate.Failed → faults' ≡ faults)

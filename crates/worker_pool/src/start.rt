@@ -9,6 +9,7 @@ ghost use Rattle.worker_pool.specs.Runs.{members};
 use crate::pool::run_several;
 use crate::worker::Worker;
 use edge_io::Sink;
+use faults::Memory;
 use gate_permits::Texts;
 use ordered_commit::{Board, Outcome, PoolFault, Seat};
 use reduce_step::Step;
@@ -22,6 +23,7 @@ fn without_texts<S: Step + Drop, G: Gate, J: Sink + Drop>(
     board: Board<S, G, J>,
     seats: Vec<Seat>,
     workers: &[Worker<G>],
+    memory: Memory,
 ) -> Outcome<S, J>
     requires board { board ≡ new_board (length workers.now) board.start board.kept board.front board.journal }
     requires seats { seats.items ≡ new_seats (length workers.now) }
@@ -33,7 +35,7 @@ fn without_texts<S: Step + Drop, G: Gate, J: Sink + Drop>(
 {
     let _ = workers;
     let mut outcome = board.end(seats);
-    outcome.fault = Some(PoolFault::Memory);
+    outcome.fault = Some(PoolFault::Memory(memory));
     outcome
 }
 
@@ -82,7 +84,7 @@ pub fn run_workers<
         (slice_index_or workers.new 0 d) }
 {
     match Texts::new(*seats.allocator()) {
-        Err(_) => without_texts(board, seats, workers),
+        Err(refused) => without_texts(board, seats, workers, Memory::from(refused)),
         Ok(texts) => {
             if workers.len() == 1 {
                 run_one(rt, &texts, board, seats, workers)

@@ -1,6 +1,7 @@
 -- What is found when the body of a text is made, and when two grammars are joined.
 use Rattle.std.specs.Prelude.{◌≡◌, ◌↔◌, ℕ, Bool, not, cond, IsTrue, List, [], Option, Some, None, filter, is_none, length, codes}
 use Rattle.std.specs.Str.{IsUtf8}
+use Rattle.faults.specs.Memory.{ran_out}
 use Rattle.grammar_tree.specs.Kinds.{same_text}
 use Rattle.grammar_tree.specs.Written.{Reference, WrittenGrammar}
 use Rattle.grammar_pair.specs.Bodies.{BeginsWith, entries_of, lexer_body, parser_body, vocabularies}
@@ -38,7 +39,7 @@ pub data IsJoinFault (L P : WrittenGrammar) (names : List (List ℕ)) : PairFaul
   wrong_rule : {name : List ℕ} → others L.name names ≡ [] → first (wrong_rules L P) ≡ Some name → IsJoinFault L P names (WrongRule name)
   no_literal : {literal : List ℕ} → others L.name names ≡ [] → wrong_rules L P ≡ [] → first_implicit (joined L P).rules ≡ Some literal
       → IsJoinFault L P names (NoLiteral literal)
-  memory : IsJoinFault L P names Memory
+  memory : IsJoinFault L P names (Memory ran_out)
 
 -- the literal, where it is one that has no number
 abbrev pub unnamed_by : (List ℕ → Option ℕ) → Reference → Option (List ℕ)

@@ -15,5 +15,5 @@ WritesCommit plan put_so_far number verdict (Ok done) front front_after history 
     (plan front_after ≡ after (plan front) verdict) × (history_after ≡ history ++ Committed number ∷ []) × IsWritten put_so_far (Committed number) old new
 WritesCommit plan put_so_far number verdict (Err Journal) front front_after history history_after old new =
     (front_after ≡ front) × (history_after ≡ history) × IsPartlyWritten put_so_far (Committed number) old new
-WritesCommit plan put_so_far number verdict (Err Memory) front front_after history history_after old new =
+WritesCommit plan put_so_far number verdict (Err (Memory _)) front front_after history history_after old new =
     (history_after ≡ history ++ Committed number ∷ []) × IsWritten put_so_far (Committed number) old new

@@ -21,5 +21,5 @@ RecordsKept put_so_far (Ok done) kept table table_after history history_after ol
     (table_after ≡ with_kept_record kept table) × (history_after ≡ history ++ kept_event kept ∷ []) × IsWritten put_so_far (kept_event kept) old new
 RecordsKept put_so_far (Err Journal) kept table table_after history history_after old new =
     (table_after ≡ table) × (history_after ≡ history) × IsPartlyWritten put_so_far (kept_event kept) old new
-RecordsKept put_so_far (Err Memory) kept table table_after history history_after old new =
+RecordsKept put_so_far (Err (Memory _)) kept table table_after history history_after old new =
     (table_after ≡ table) × (history_after ≡ history) × (new ≡ old)

@@ -15,6 +15,6 @@ AnswersFor (Some fault) result units bytes records answer = answer ≡ Err (faul
 AnswersFor None result units bytes records (Ok reduced) =
     (result.refused ≡ false) × (reduced.text.items ≡ result.text) × (reduced.counts ≡ counts_of_result units bytes result records)
 AnswersFor None result units bytes records (Err NotInteresting) = result.refused ≡ true
-AnswersFor None result units bytes records (Err Memory) = Unit {0}
+AnswersFor None result units bytes records (Err (Memory _)) = Unit {0}
 AnswersFor None result units bytes records (Err (Script worker)) = ⊥
 AnswersFor None result units bytes records (Err Journal) = ⊥

@@ -23,28 +23,28 @@ abbrev pub IsCausedBy : Option PoolFault → Reached → Reached → Type 0
 IsCausedBy None old new = NoneFailed old new
 IsCausedBy (Some (Script worker)) old new = GateFailed worker old.gates new.gates × IsQuiet old.journal new.journal
 IsCausedBy (Some Journal) old new = CallFailed old.journal new.journal
-IsCausedBy (Some Memory) old new = IsQuiet old.journal new.journal
+IsCausedBy (Some (Memory _)) old new = IsQuiet old.journal new.journal
 
 -- what the journal has, by the fault
 abbrev pub JournalLeft : ℕ → Digest → KeptVerdicts → Option PoolFault → History → Option Put → Option Put → Type 0
 JournalLeft workers start kept None history old new = HasWritten start history old new
 JournalLeft workers start kept (Some (Script worker)) history old new = HasWritten start history old new
 JournalLeft workers start kept (Some Journal) history old new = HasPartBy workers start kept history old new
-JournalLeft workers start kept (Some Memory) history old new = HasWritten start history old new ⊎ HasNothing history old new
+JournalLeft workers start kept (Some (Memory _)) history old new = HasWritten start history old new ⊎ HasNothing history old new
 
 -- where the gate failed, the reducer asks a text that has no record
 abbrev pub WaitsAt : Option PoolFault → Plan → History → Type 0
 WaitsAt None first history = Unit {0}
 WaitsAt (Some (Script worker)) first history = IsSome (asked (follow (verdict_in (records_of history)) first))
 WaitsAt (Some Journal) first history = Unit {0}
-WaitsAt (Some Memory) first history = Unit {0}
+WaitsAt (Some (Memory _)) first history = Unit {0}
 
 -- the gate failed only where that is the cause
 abbrev pub IsQuietBut : Option PoolFault → List SeenGate → List SeenGate → Type 0
 IsQuietBut None old new = AreQuiet old new
 IsQuietBut (Some (Script worker)) old new = Unit {0}
 IsQuietBut (Some Journal) old new = AreQuiet old new
-IsQuietBut (Some Memory) old new = AreQuiet old new
+IsQuietBut (Some (Memory _)) old new = AreQuiet old new
 
 -- What holds of a run of one worker beside: it does what one thread does, and its gate failed only where that is the cause.
 pub record IsAlone (kept : KeptVerdicts) (fault : Option PoolFault) (first : Plan) (history : History) (old new : List SeenGate) : Type 0 where

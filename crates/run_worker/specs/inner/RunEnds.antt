@@ -19,4 +19,4 @@ abbrev pub JournalEnds : Digest → KeptVerdicts → Option PoolFault → Histor
 JournalEnds start kept None history old new = HasWritten start history old new
 JournalEnds start kept (Some (Script worker)) history old new = HasWritten start history old new
 JournalEnds start kept (Some Journal) history old new = HasPart start kept history old new
-JournalEnds start kept (Some Memory) history old new = HasWritten start history old new ⊎ HasNothing history old new
+JournalEnds start kept (Some (Memory _)) history old new = HasWritten start history old new ⊎ HasNothing history old new

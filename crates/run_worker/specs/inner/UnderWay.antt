@@ -73,7 +73,7 @@ abbrev pub IsUnansweredAt : Option PoolFault → Plan → List Record → Type 0
 IsUnansweredAt None plan records = Unit {0}
 IsUnansweredAt (Some (Script worker)) plan records = IsUnanswered plan records
 IsUnansweredAt (Some Journal) plan records = Unit {0}
-IsUnansweredAt (Some Memory) plan records = Unit {0}
+IsUnansweredAt (Some (Memory _)) plan records = Unit {0}
 
 -- What holds between two calls of a run that began at the first of these moments, of the only worker, whose seat this is.
 pub record IsUnderWay (start now : Moment) (seat : Seat) : Type 0 where

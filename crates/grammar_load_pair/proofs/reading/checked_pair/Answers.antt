@@ -1,5 +1,6 @@
 use Rattle.std.proofs.Common.{◌≢◌, Bor, ℕ, List, Option, rules}
 use Rattle.std.specs.Prelude.{chars, option_map}
+use Rattle.faults.specs.Memory.{ran_out}
 use Rattle.grammar_tree.specs.GrammarView.{grammar_of}
 use Rattle.grammar_check.specs.declared.fault.CheckFault.TheVariants as check
 use Rattle.grammar_load_pair.proofs.AnswerLemmas.{no_text, only_checked}
@@ -22,7 +23,7 @@ returns-in-Ok-check-clause-only c =
 pub returns-in-Err-check : goal.returns-in-Err-check
 returns-in-Err-check c =
     let G = grammar_of c.in-Ok.grammar in
-    let caused : c.in-Err-check.fault ≢ check.Memory = search rules in
+    let caused : c.in-Err-check.fault ≢ check.Memory ran_out = search rules in
     let first = c.in-Err-check.ensures caused in
     record {
       ok = tt;

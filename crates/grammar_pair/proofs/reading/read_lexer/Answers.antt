@@ -1,4 +1,5 @@
 use Rattle.std.proofs.Common.{◌≢◌, rules}
+use Rattle.faults.specs.Memory.{ran_out}
 use Rattle.grammar_tree.specs.GrammarView.{grammar_of}
 use Rattle.grammar_reader_notation.specs.declared.fault.ReadFault.TheVariants as read
 use Rattle.grammar_pair.specs.Joined.{IsLexerFault}
@@ -20,7 +21,7 @@ returns-in-Err-Memory-clause-fault c = IsLexerFault.memory
 
 pub returns : goal.returns
 returns c =
-    let caused : c.in-Err.fault ≢ read.Memory = search rules in
+    let caused : c.in-Err.fault ≢ read.Memory ran_out = search rules in
     record {
       ok = tt;
       few = tt;

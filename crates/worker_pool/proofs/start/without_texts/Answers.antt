@@ -1,4 +1,5 @@
 use Rattle.std.proofs.Common.{◌≡◌, ◌*◌, Some, IfSome, ap, length, option_map, refl, slice_index_or, subst, sym, ◌∙◌}
+use Rattle.faults.specs.Memory.{ran_out}
 use Rattle.reduce_journal.specs.History.{History, asked_records_of, records_of}
 use Rattle.verdict_table.specs.TableState.{texts_of, verdict_in}
 use Rattle.reduce_step.specs.Ahead.{ahead}
@@ -45,8 +46,8 @@ returns-clause-outcome g c =
       );
       ended = λ is. absurd (cc is);
       replayed = λ is. absurd (cc is);
-      journal = subst (λ journal. IfSome (put journal) (λ p. IsJournal c.args.board.start (Some Memory) out.events.items p.bytes)) (sym end.journal)
-          (subst (λ (h : History). IfSome (put c.args.board.journal) (λ p. IsJournal c.args.board.start (Some Memory) h p.bytes)) (sym none) head);
+      journal = subst (λ journal. IfSome (put journal) (λ p. IsJournal c.args.board.start (Some (Memory ran_out)) out.events.items p.bytes)) (sym end.journal)
+          (subst (λ (h : History). IfSome (put c.args.board.journal) (λ p. IsJournal c.args.board.start (Some (Memory ran_out)) h p.bytes)) (sym none) head);
       due = λ is. absurd (cc is);
       same_name = ap (λ journal. option_map (λ p. p.name) (put journal)) end.journal;
       rose = λ is. absurd (cc is);
@@ -82,12 +83,12 @@ returns-clause-one g c = λ d.
     end.kept
     c.requires.board in
     record {
-      sequential = none_sequential board.Memory (verdict_in c.args.board.kept) first (Some Memory) items refl none;
+      sequential = none_sequential (board.Memory ran_out) (verdict_in c.args.board.kept) first (Some (Memory ran_out)) items refl none;
       begun = subst (λ (h : History). BeginsWith first (records_of h)) (sym none) tt;
       one = subst (λ (h : History). EndsAtFirst first (records_of h)) (sym none) tt;
       asked = subst (λ (h : History). log ≡ option_map (with_all_asked (texts_of (asked_records_of h))) log) (sym none) (none_asked log);
       ended = tt;
       caused = (refl, ap g.J.Sink.faults end.journal);
-      journal = subst (λ journal. IfSome (put journal) (λ p. IsJournal c.args.board.start (Some Memory) items p.bytes)) (sym end.journal)
-          (subst (λ (h : History). IfSome (put c.args.board.journal) (λ p. IsJournal c.args.board.start (Some Memory) h p.bytes)) (sym none) head);
+      journal = subst (λ journal. IfSome (put journal) (λ p. IsJournal c.args.board.start (Some (Memory ran_out)) items p.bytes)) (sym end.journal)
+          (subst (λ (h : History). IfSome (put c.args.board.journal) (λ p. IsJournal c.args.board.start (Some (Memory ran_out)) h p.bytes)) (sym none) head);
     }

@@ -1,10 +1,11 @@
 use Rattle.std.proofs.Common.{Ok, Err, Result, IsErrOf, IsOkUnless, arith}
+use Rattle.faults.specs.Memory.{ran_out}
 use Rattle.script_gate_trait.specs.declared.gate.GateFault.{GateFault}
 use Rattle.script_gate_trait.specs.declared.gate.GateFault.TheVariants.{Failed, Memory}
 use Rattle.script_gate_trait.proofs.rule_gate.RuleGateGate.TheImpl.Goals as goal
 
 -- what fails only where memory runs out never answers `Failed`
-never_failed : {A : Type 0} (result : Result A GateFault) → IsOkUnless result Memory → IsErrOf result Failed → ⊥
+never_failed : {A : Type 0} (result : Result A GateFault) → IsOkUnless result (Memory ran_out) → IsErrOf result Failed → ⊥
 never_failed (Ok value) only failed = absurd (cc failed)
 never_failed (Err fault) only failed = absurd (cc (only, failed))
 
