@@ -12,7 +12,7 @@ ghost use Rattle.chart_parser.specs.inner.Preorder.{AreBegun, AreDerived, below,
 use crate::choice::rule_parts;
 use crate::part::{Asked, Part};
 use chart_parser_ends::Chart;
-use faults::Memory;
+use faults::{Limit, Memory};
 use normal_form::{Normal, Sym};
 use normal_form_spans::spans_by_form;
 use std::alloc::Global;
@@ -57,9 +57,7 @@ fn add_rule_node(
     let Asked { part, parent } = asked;
     let alt = rule_parts(alloc, chart, normal, rule, part, parts)?;
     let count = parts.len();
-    if count > u32::MAX as usize {
-        return Err(Memory);
-    }
+    Limit::Numbers.within(count)?;
     nodes.push(Node {
         sym: part.slot,
         slot: part.slot,
@@ -116,9 +114,7 @@ pub(crate) fn preferred_nodes(
     let mut parts = Vec::new(alloc);
     let mut stack = vec![in alloc; Asked { part, parent: None }]?;
     while let Some(asked) = stack.pop() {
-        if nodes.len() >= u32::MAX as usize {
-            return Err(Memory);
-        }
+        Limit::Numbers.within(nodes.len() + 1)?;
         match asked.part.slot {
             Sym::Rule(rule) => add_rule_node(
                 alloc, chart, normal, rule, asked, &mut nodes, &mut stack, &mut parts,

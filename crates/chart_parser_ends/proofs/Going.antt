@@ -1,10 +1,10 @@
 -- What is worked on until its entry is there.
-use Rattle.std.proofs.Common.{◌≡◌, ℕ, ◌⊎◌, inl, inr, List, [], ◌∷◌, ◌++◌, sym, ap, ◌∙◌, subst, arith}
+use Rattle.std.proofs.Common.{◌≡◌, ℕ, ◌+◌, ◌<◌, ◌^◌, ◌⊎◌, inl, inr, List, [], ◌∷◌, ◌++◌, length, length-append, sym, ap, ◌∙◌, subst, arith}
 use Rattle.std.proofs.lemmas.List.Elements.{Contains-append_left, Contains-push, Contains-push_cases}
 use Rattle.std.specs.List.{Contains}
 use Rattle.chart_parser_ends.specs.declared.work.Work.{Work}
 use Rattle.chart_parser_ends.specs.inner.Entries.{Entry, HasEntry, entry}
-use Rattle.chart_parser_ends.specs.inner.UnderWay.{IsUnderWay, KeepsUnderWay}
+use Rattle.chart_parser_ends.specs.inner.UnderWay.{IsUnderWay, KeepsUnderWay, work_left}
 use Rattle.chart_parser_ends.specs.inner.Working.{IsOn, first_of, rule_of}
 
 no_work : (w : Work) → Contains [] w → ⊥
@@ -48,7 +48,7 @@ stored E new works w rule first ends rule_is first_is e r f under = by under
     by (inr (v, c, on)) = split v on (Contains-push_cases works w v c)
 
 -- The work goes on.
-pub goes_on : (E : List Entry) (works new : List Work) (w v : Work) → new ≡ works ++ v ∷ [] → IsOn (rule_of w) (first_of w) v
+goes_on : (E : List Entry) (works new : List Work) (w v : Work) → new ≡ works ++ v ∷ [] → IsOn (rule_of w) (first_of w) v
     → KeepsUnderWay E (works ++ w ∷ []) E new
 goes_on E works new w v e is r f under = by under
   where
@@ -68,3 +68,17 @@ waits E works with_it new w v x e more is r f under = by (goes_on E works with_i
     by : IsUnderWay E with_it r f → IsUnderWay E new r f
     by (inl h) = inl h
     by (inr (y, c, on)) = inr (y, subst (λ l. Contains l y) (sym more) (Contains-append_left with_it (x ∷ []) y c), on)
+
+-- Where an entry is stored, less is left.
+pub less_stored : (E new : List Entry) (works : ℕ) (e : Entry) → new ≡ E ++ e ∷ [] → length new < 2 ^ 32 → work_left new works < work_left E (works + 1)
+less_stored E new works e is few =
+    let count : length new ≡ length E + 1 = ap length is ∙ length-append E (e ∷ []) in
+    omega (arith, count, few)
+
+-- Where one more work waits, less is left.
+pub less_waiting : (E : List Entry) (works with_it new : List Work) (v x : Work) → with_it ≡ works ++ v ∷ [] → new ≡ with_it ++ x ∷ [] → length new < 2 ^ 64
+    → work_left E (length new) < work_left E (length works + 1)
+less_waiting E works with_it new v x e more few =
+    let first : length with_it ≡ length works + 1 = ap length e ∙ length-append works (v ∷ []) in
+    let second : length new ≡ length with_it + 1 = ap length more ∙ length-append with_it (x ∷ []) in
+    omega (arith, first, second, few)

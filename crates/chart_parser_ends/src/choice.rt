@@ -3,12 +3,12 @@
 ghost use Rattle.std.specs.Prelude.{◌+◌, ◌<◌, ◌≡◌, ◌^◌, [], length, IfOk, IfSome, OnOk};
 ghost use Rattle.std.specs.List.Sorted.{IsStrictlyIncreasing};
 ghost use Rattle.std.specs.Option.{option_map};
-ghost use Rattle.chart_parser_ends.specs.inner.Moves.{Begins, FindsAlternative, HasNextAlternative, HasNextSymbol, IsChoiceProgress, IsNextSymbol};
-ghost use Rattle.chart_parser_ends.specs.inner.Working.{IsChoice, IsStep, IsStepOn};
+ghost use Rattle.chart_parser_ends.specs.inner.Moves.{Begins, FindsAlternative, HasNextAlternative, HasNextSymbol, IsChoiceProgress, IsNextSymbol, IsOnwardTo};
+ghost use Rattle.chart_parser_ends.specs.inner.Working.{IsChoice, IsChoiceOnward, IsStep, IsStepOn, choice_progress};
 
 use crate::positions::add_all;
 use crate::table::ChartTable;
-use crate::work::{Progress, RuleEnds, STEPS, Step, Work};
+use crate::work::{Progress, RuleEnds, Step, Work};
 use faults::Memory;
 use normal_form::{Normal, NormalRule, Sym};
 use std::alloc::Global;
@@ -104,6 +104,7 @@ impl Choice {
         ensures progress { IfOk result (IsChoiceProgress table.now.input.normal table.now.input.kinds self.new) }
         ensures rule { OnOk result (self.new.rule ≡ self.old.rule) }
         ensures first { OnOk result (self.new.first ≡ self.old.first) }
+        ensures onward { IfOk result (IsOnwardTo (choice_progress self.old) (choice_progress self.new)) }
     {
         let position = self.current[self.done];
         match table.ends_of(symbol, position) {
@@ -122,6 +123,8 @@ impl Choice {
         ensures progress { IfOk result (IsChoiceProgress table.now.input.normal table.now.input.kinds self.new) }
         ensures rule { OnOk result (self.new.rule ≡ self.old.rule) }
         ensures first { OnOk result (self.new.first ≡ self.old.first) }
+        ensures range { choice_progress self.old < 2 ^ 192 }
+        ensures onward { IfOk result (IsOnwardTo (choice_progress self.old) (choice_progress self.new)) }
     {
         let Some(symbols) = alternative(table.normal(), self.rule, self.alternative) else {
             return Ok(Progress::Done);
@@ -154,13 +157,14 @@ impl Choice {
         RuleEnds { rule, first, ends }
     }
 
-    /// Some steps of the work.
+    /// The next steps of the work, up to where it is done or needs more.
     pub(crate) fn step(mut self, table: &ChartTable<'_>) -> Result<Step, Memory>
         requires { IsChoice table.now.input.normal table.now.input.kinds self }
         ensures step { IfOk result (IsStep table.now.input.normal table.now.input.kinds) }
         ensures same { IfOk result (IsStepOn self.rule self.first) }
+        ensures onward { IfOk result (IsChoiceOnward (choice_progress self)) }
     {
-        for _ in 0..STEPS {
+        loop {
             match self.advance(table)? {
                 Progress::More => {}
                 Progress::Done => return Ok(Step::Done(self.rule_ends())),
@@ -169,6 +173,5 @@ impl Choice {
                 }
             }
         }
-        Ok(Step::More(Work::Choice(self)))
     }
 }

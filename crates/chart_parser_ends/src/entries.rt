@@ -1,18 +1,16 @@
 //! The entries of a chart.
 
-ghost use Rattle.std.specs.Prelude.{◌≡◌, ℕ, ◌++◌, ◌+◌, ◌∷◌, ◌<◌, ◌^◌, [], length, slice_index_or, vec_len, IfNone, IfSome, OnErr, OnOk};
+ghost use Rattle.std.specs.Prelude.{◌≡◌, ℕ, ◌++◌, ◌+◌, ◌-◌, ◌∷◌, ◌<◌, ◌≤◌, ◌^◌, [], IfNone, IfSome, OnErr, OnOk, Some};
+ghost use Rattle.std.specs.Prelude.{length, min, slice_get, slice_index_or, vec_len};
 ghost use Rattle.std.specs.List.{Contains};
 ghost use Rattle.chart_parser_ends.specs.declared.entries.EndsRange.{EndsRange};
 ghost use Rattle.chart_parser_ends.specs.inner.Entries.{HasEntry, entry};
-ghost use Rattle.chart_parser_ends.specs.inner.Ranges.{AreLinked, IsApart, IsNumbered, IsRangeOf};
+ghost use Rattle.chart_parser_ends.specs.inner.Ranges.{AreLinked, IsAdded, IsApart, IsNumbered, IsRangeOf};
 
-use faults::Memory;
+use faults::{Limit, Memory};
 use std::alloc::Global;
 use std::collections::HashMap;
 use std::marker::Model;
-
-/// How many entries there are at most, and how many ends.
-const MOST: usize = u32::MAX as usize;
 
 /// How many ranges are in the chain of a position at most.
 const CHAIN: u32 = 32;
@@ -75,14 +73,15 @@ fn link_at(last: &[u32], first: u32) -> u32
 }
 
 /// The depth of a range that comes after the one with this link.
-fn depth_after(ranges: &[EndsRange], link: u32) -> u32 {
+fn depth_after(ranges: &[EndsRange], link: u32) -> u32
+    requires { link ≤ length ranges.now }
+    ensures none { link ≡ 0 → result ≡ 1 }
+    ensures more { (i : ℕ) (r : EndsRange) → link ≡ i + 1 → slice_get ranges.now i ≡ Some r → result ≡ min (r.depth + 1) (2 ^ 32 - 1) }
+{
     if link == 0 {
         return 1;
     }
-    match ranges.get(link as usize - 1) {
-        Some(range) => range.depth.saturating_add(1),
-        None => 1,
-    }
+    ranges[link as usize - 1].depth.saturating_add(1)
 }
 
 /// The range of the rule in the chain of the position.
@@ -163,8 +162,7 @@ fn add_chained(
 ) -> Result<(), Memory>
     requires few { length ranges.old.items + 1 < 2 ^ 32 }
     requires earlier { range.earlier ≡ slice_index_or last.old.items range.first 0 }
-    ensures ok { OnOk result (ranges.new.items ≡ ranges.old.items ++ range ∷ []) }
-    ensures err { OnErr result (ranges.new.items ≡ ranges.old.items) }
+    ensures added { IsAdded ranges.old.items ranges.new.items range result }
     ensures linked { AreLinked ranges.old.items last.old.items → AreLinked ranges.new.items last.new.items }
 {
     reach(last, range.first)?;
@@ -180,8 +178,7 @@ fn add_numbered(
     range: EndsRange,
 ) -> Result<(), Memory>
     requires { length ranges.old.items < 2 ^ 32 }
-    ensures ok { OnOk result (ranges.new.items ≡ ranges.old.items ++ range ∷ []) }
-    ensures err { OnErr result (ranges.new.items ≡ ranges.old.items) }
+    ensures added { IsAdded ranges.old.items ranges.new.items range result }
     ensures numbered { IsNumbered ranges.old.items numbers.old → IsNumbered ranges.new.items numbers.new }
 {
     let number = ranges.len() as u32;
@@ -200,8 +197,7 @@ fn add_range(
 ) -> Result<(), Memory>
     requires few { length ranges.old.items + 1 < 2 ^ 32 }
     requires earlier { range.earlier ≡ slice_index_or last.old.items range.first 0 }
-    ensures ok { OnOk result (ranges.new.items ≡ ranges.old.items ++ range ∷ []) }
-    ensures err { OnErr result (ranges.new.items ≡ ranges.old.items) }
+    ensures added { IsAdded ranges.old.items ranges.new.items range result }
     ensures linked { AreLinked ranges.old.items last.old.items → AreLinked ranges.new.items last.new.items }
     ensures numbered { IsNumbered ranges.old.items numbers.old → IsNumbered ranges.new.items numbers.new }
 {
@@ -242,15 +238,15 @@ impl Entries {
         }
     }
 
-    /// Adds an entry.
+    /// Adds an entry. There are at most 4,294,967,295, and as many ends in all.
     pub(crate) fn store(&mut self, rule: u32, first: u32, ends: &[u32]) -> Result<(), Memory>
         ensures ok { OnOk result (self.new ≡ self.old ++ entry rule first ends.now ∷ []) }
         ensures err { OnErr result (self.new ≡ self.old) }
+        ensures few { OnOk result (length self.new < 2 ^ 32) }
     {
         let from = self.ends.len();
-        if self.ranges.len() >= MOST || from > MOST || ends.len() > MOST - from {
-            return Err(Memory);
-        }
+        Limit::Numbers.within(self.ranges.len() + 1)?;
+        Limit::Numbers.within(from + ends.len())?;
         self.ends.extend_from_slice(ends)?;
         let earlier = link_at(&self.last, first);
         let range = EndsRange {

@@ -1,6 +1,6 @@
 //! The work on where a star or plus can end.
 
-ghost use Rattle.std.specs.Prelude.{◌≡◌, ◌+◌, ◌<◌, ℕ, drop, if◌then◌else◌, length, IfOk, MatchOption, OnOk};
+ghost use Rattle.std.specs.Prelude.{◌≡◌, ◌+◌, ◌<◌, ◌^◌, ℕ, drop, if◌then◌else◌, length, IfOk, MatchOption, OnOk};
 ghost use Rattle.std.specs.List.{Contains};
 ghost use Rattle.std.specs.List.Sorted.{IsStrictlyIncreasing};
 ghost use Rattle.chart_parser_ends.specs.inner.Moves.{BeginsRepetition, IsOnwardTo, IsRepetitionProgress, TakesEntry};
@@ -8,8 +8,8 @@ ghost use Rattle.chart_parser_ends.specs.inner.Working.{IsNext, IsOnward, IsRepe
 
 use crate::positions::{add_all, has};
 use crate::table::ChartTable;
-use crate::work::{Progress, RuleEnds, STEPS, Step, Work};
-use faults::Memory;
+use crate::work::{Progress, RuleEnds, Step, Work};
+use faults::{Limit, Memory};
 use normal_form::Sym;
 use std::alloc::Global;
 
@@ -54,10 +54,12 @@ impl Repetition {
     /// The least position from `from` on that was reached.
     fn next(&self) -> Option<u32>
         requires { IsStrictlyIncreasing self.now.reached.items }
-        ensures { MatchOption result ((x : ℕ) → Contains self.now.reached.items x → x < self.now.from) (IsNext self.now.reached.items self.now.from) }
+        ensures least { MatchOption result ((x : ℕ) → Contains self.now.reached.items x → x < self.now.from) (IsNext self.now.reached.items self.now.from) }
+        ensures range { self.now.from < 2 ^ 32 }
     {
-        match self.reached.binary_search(&self.from) {
-            Ok(_) => Some(self.from),
+        let from = self.from;
+        match self.reached.binary_search(&from) {
+            Ok(_) => Some(from),
             Err(next) => {
                 if next < self.reached.len() {
                     Some(self.reached[next])
@@ -141,6 +143,7 @@ impl Repetition {
         ensures progress { IfOk result (IsRepetitionProgress table.now.input.normal table.now.input.kinds self.new) }
         ensures rule { OnOk result (self.new.rule ≡ self.old.rule) }
         ensures first { OnOk result (self.new.first ≡ self.old.first) }
+        ensures range { self.old.from < 2 ^ 32 }
         ensures onward { IfOk result (IsOnwardTo self.old.from self.new.from) }
     {
         let Some(position) = self.next() else {
@@ -158,7 +161,7 @@ impl Repetition {
         }
     }
 
-    /// Some steps of the work.
+    /// The next steps of the work, up to where it is done or needs more.
     pub(crate) fn step(mut self, table: &ChartTable<'_>) -> Result<Step, Memory>
         requires { IsRepetition table.now.input.normal table.now.input.kinds self }
         ensures step { IfOk result (IsStep table.now.input.normal table.now.input.kinds) }
@@ -166,7 +169,7 @@ impl Repetition {
         ensures onward { IfOk result (IsOnward self.from) }
     {
         table.normal().is_normal();
-        for _made in 0..STEPS {
+        loop {
             match self.advance(table)? {
                 Progress::More => {}
                 Progress::Done => return Ok(Step::Done(self.rule_ends())),
@@ -175,7 +178,6 @@ impl Repetition {
                 }
             }
         }
-        Ok(Step::More(Work::Repetition(self)))
     }
 }
 
@@ -183,10 +185,8 @@ impl Repetition {
 fn after(position: u32) -> Result<u32, Memory>
     ensures { IfOk result (λ next. next ≡ position + 1) }
 {
-    match position.checked_add(1) {
-        Some(next) => Ok(next),
-        None => Err(Memory),
-    }
+    Limit::Numbers.within(position as usize + 1)?;
+    Ok(position + 1)
 }
 
 /// Where a star or plus can end, of the positions that its symbol reaches any number of times. The

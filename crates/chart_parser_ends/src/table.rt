@@ -120,6 +120,7 @@ impl<'a> ChartTable<'a> {
         requires { first ≤ length self.now.input.kinds }
         ensures ends { IfOk result (λ ends. HasExactly (DerivesSpan self.now.input.normal self.now.input.kinds (Sym.Rule rule) first) ends.now) }
         ensures missing { IfErr result (λ missing. missing ≡ rule) }
+        ensures absent { IfErr result (λ missing. ¬ HasEntry self.now.entries missing first) }
     {
         if let Some(ends) = self.ends_by_kind(rule, first) {
             return Ok(ends);
@@ -136,6 +137,7 @@ impl<'a> ChartTable<'a> {
         ensures ends { IfOk result (λ ends. HasExactly (DerivesSpan self.now.input.normal self.now.input.kinds symbol first) ends.now) }
         ensures missing { IfErr result (λ rule. symbol ≡ Sym.Rule rule) }
         ensures within { IfErr result (λ rule. first ≤ length self.now.input.kinds) }
+        ensures absent { IfErr result (λ rule. ¬ HasEntry self.now.entries rule first) }
     {
         if first as usize > self.kinds.len() {
             return Ok(&self.positions[..0]);
@@ -164,6 +166,7 @@ impl<'a> ChartTable<'a> {
         ensures same { self.new.input ≡ self.old.input }
         ensures ok { OnOk result (self.new.entries ≡ self.old.entries ++ entry found.rule found.first found.ends.items ∷ []) }
         ensures err { OnErr result (self.new.entries ≡ self.old.entries) }
+        ensures few { OnOk result (length self.new.entries < 2 ^ 32) }
     {
         self.entries.store(found.rule, found.first, &found.ends)
     }

@@ -1,9 +1,9 @@
 //! The work that fills a chart.
 
-ghost use Rattle.std.specs.Prelude.{◌≡◌, ◌≤◌, ◌++◌, ◌∷◌, [], length, IfOk, OnOk};
+ghost use Rattle.std.specs.Prelude.{◌≡◌, ◌+◌, ◌<◌, ◌≤◌, ◌++◌, ◌∷◌, [], length, IfOk, OnOk};
 ghost use Rattle.std.specs.List.{All};
 ghost use Rattle.chart_parser_ends.specs.inner.Entries.{HasEntry};
-ghost use Rattle.chart_parser_ends.specs.inner.UnderWay.{KeepsUnderWay};
+ghost use Rattle.chart_parser_ends.specs.inner.UnderWay.{KeepsUnderWay, work_left};
 ghost use Rattle.chart_parser_ends.specs.inner.Working.{IsOn, IsStep, IsStepOn, IsWork, first_of, rule_of};
 
 use crate::choice::Choice;
@@ -12,9 +12,6 @@ use crate::repetition::Repetition;
 use crate::table::ChartTable;
 use faults::Memory;
 use normal_form::NormalRule;
-
-/// How many steps in place a work makes at most before it is put back on the stack.
-pub(crate) const STEPS: u32 = 1024;
 
 /// All positions where a rule that begins at the position `first` can end, rising.
 #[derive(Drop)]
@@ -43,13 +40,11 @@ pub(crate) enum Progress {
     Needs(u32, u32),
 }
 
-/// What some steps of the work come to.
+/// What the steps of the work come to.
 #[derive(Drop)]
 pub(crate) enum Step {
     /// All that was worked for.
     Done(RuleEnds),
-    /// More work on it.
-    More(Work),
     /// The same work, which first needs where this rule can end that begins at this position.
     Needs(Work, u32, u32),
 }
@@ -81,7 +76,7 @@ fn first_work(table: &ChartTable<'_>, rule: u32, first: u32) -> Result<Work, Mem
     }
 }
 
-/// The next steps of the work.
+/// The next steps of the work, up to where it is done or needs more.
 fn step_of(work: Work, table: &ChartTable<'_>) -> Result<Step, Memory>
     requires { IsWork table.now.input.normal table.now.input.kinds work }
     ensures step { IfOk result (IsStep table.now.input.normal table.now.input.kinds) }
@@ -94,7 +89,7 @@ fn step_of(work: Work, table: &ChartTable<'_>) -> Result<Step, Memory>
     }
 }
 
-/// Some steps of the work that was on top of the stack. What is worked on stays on the stack until its
+/// The next steps of the work that was on top of the stack. What is worked on stays on the stack until its
 /// entry is there.
 fn go_on(table: &mut ChartTable<'_>, work: Work, stack: &mut Vec<Work>) -> Result<(), Memory>
     requires work { IsWork table.old.input.normal table.old.input.kinds work }
@@ -102,10 +97,10 @@ fn go_on(table: &mut ChartTable<'_>, work: Work, stack: &mut Vec<Work>) -> Resul
     ensures same { table.new.input ≡ table.old.input }
     ensures stack { OnOk result (All (IsWork table.old.input.normal table.old.input.kinds) stack.new.items) }
     ensures kept { OnOk result (KeepsUnderWay table.old.entries (stack.old.items ++ work ∷ []) table.new.entries stack.new.items) }
+    ensures less { OnOk result (work_left table.new.entries (length stack.new.items) < work_left table.old.entries (length stack.old.items + 1)) }
 {
     match step_of(work, table)? {
         Step::Done(found) => table.store(found)?,
-        Step::More(work) => stack.push(work)?,
         Step::Needs(work, rule, first) => {
             stack.push(work)?;
             stack.push(first_work(table, rule, first)?)?;
@@ -116,9 +111,7 @@ fn go_on(table: &mut ChartTable<'_>, work: Work, stack: &mut Vec<Work>) -> Resul
 
 /// Works out where the rule can end that begins at the position, and all that this needs.
 ///
-/// The loop's count only shows that the loop ends, and is never used up: a work needs another rule at
-/// its own position only along left corners, which lead to no rule twice, and else at a later position.
-/// So each rule is worked on at most once at each position, and a work has finitely many steps.
+/// Each turn adds an entry, of which there are at most 4,294,967,295, or one more work to the stack.
 pub(crate) fn work_out(table: &mut ChartTable<'_>, rule: u32, first: u32) -> Result<(), Memory>
     requires { first ≤ length table.old.input.kinds }
     ensures same { table.new.input ≡ table.old.input }
@@ -126,11 +119,8 @@ pub(crate) fn work_out(table: &mut ChartTable<'_>, rule: u32, first: u32) -> Res
 {
     let mut stack = Vec::new(table.alloc());
     stack.push(first_work(table, rule, first)?)?;
-    for _ in 0..u64::MAX {
-        let Some(work) = stack.pop() else {
-            return Ok(());
-        };
+    while let Some(work) = stack.pop() {
         go_on(table, work, &mut stack)?;
     }
-    Err(Memory)
+    Ok(())
 }

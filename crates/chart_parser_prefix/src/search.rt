@@ -280,6 +280,7 @@ impl PrefixSearch<'_> {
         ensures same { chart.new ≡ chart.old }
         ensures walk { OnOk result (IsWalk self.now.normal.now self.now.kinds.now self.now.start position lists.new.items) }
         ensures more { IfOk result (λ more. IsTrue more → IsClosedTo self.now.normal.now self.now.kinds.now position (done + 1) lists.new.items) }
+        ensures small { IfOk result (λ more. IsTrue more → done + 1 < 2 ^ 64) }
         ensures all { IfOk result (λ more. more ≡ false → IsClosed self.now.normal.now self.now.kinds.now position lists.new.items) }
     {
         let symbols = lists[position as usize].as_slice();
@@ -311,12 +312,11 @@ impl PrefixSearch<'_> {
         ensures walk { OnOk result (IsWalk self.now.normal.now self.now.kinds.now self.now.start position lists.new.items) }
         ensures closed { OnOk result (IsClosed self.now.normal.now self.now.kinds.now position lists.new.items) }
     {
-        for done in 0..usize::MAX {
-            if !self.predict_next(chart, position, done, places, lists)? {
-                return Ok(());
-            }
+        let mut done = 0;
+        while self.predict_next(chart, position, done, places, lists)? {
+            done += 1;
         }
-        Err(Memory)
+        Ok(())
     }
 
     /// Whether the kind at the position can come next there: the beginning with it is viable too.

@@ -1,10 +1,10 @@
 -- A search from a rule finds exactly the symbols that it leads to.
-use Rattle.std.proofs.Common.{◌≡◌, ◌⊎◌, inl, inr, ℕ, zero, suc, ◌+◌, ◌<◌, ◌≤◌, List, [], ◌∷◌, ◌++◌, Some, length, map}
+use Rattle.std.proofs.Common.{◌≡◌, ◌⊎◌, inl, inr, ℕ, zero, suc, Bool, ◌+◌, ◌<◌, ◌≤◌, List, [], ◌∷◌, ◌++◌, Some, length, map}
 use Rattle.std.proofs.Common.{slice_get, slice_index, get_or, refl, sym, ap, ◌∙◌, subst, arith, true≢false}
 use Rattle.std.specs.Prelude.{◌≢◌, if◌then◌else◌, nat_eq, slice_set}
 use Rattle.std.specs.Global.{Vec}
-use Rattle.std.specs.List.{All, Contains}
-use Rattle.std.proofs.lemmas.Bool.{cases_Bool, cases_lt, ne_eqb}
+use Rattle.std.specs.List.{All, Contains, dedup, dedup_from}
+use Rattle.std.proofs.lemmas.Bool.{cases_Bool, cases_lt, cond_both, ne_eqb}
 use Rattle.std.proofs.lemmas.Bool.Decides.{Decides-eqb}
 use Rattle.std.proofs.lemmas.List.{length-append, length-set, get_or_default, get_or-set_other}
 use Rattle.std.proofs.lemmas.List.Elements.{Contains-append_left, Contains-append_right, Contains-append_cases}
@@ -18,7 +18,8 @@ use Rattle.grammar_tree.proofs.Lent.{contains_cases, contains_first, contains_no
 
 -- Growing by nothing, and by one list after another.
 pub grown_by_none : (row : Symbols) → IsGrown [] row row
-grown_by_none row = record { only = λ t c. inl c; kept = λ t c. c; added = λ t c. absurd (contains_none t c); longer = omega arith; front = λ k lt. refl }
+grown_by_none row =
+    record { only = λ t c. inl c; kept = λ t c. c; added = λ t c. absurd (contains_none t c); few = omega arith; longer = omega arith; front = λ k lt. refl }
 
 pub grown_more : (xs ys : List Sym) (a b c : Symbols) → IsGrown xs a b → IsGrown ys b c → IsGrown (xs ++ ys) a c
 grown_more xs ys a b c g h =
@@ -29,12 +30,25 @@ grown_more xs ys a b c g h =
       ];
       kept = λ t at. h.kept t (g.kept t at);
       added = λ t at. elim (Contains-append_cases xs ys t at) [ inl first ↦ h.kept t (g.added t first) | inr second ↦ h.added t second ];
+      few = omega (arith, g.few, h.few, length-append xs ys);
       longer = omega (arith, g.longer, h.longer);
       front = λ k lt. h.front k (omega (arith, g.longer, lt)) ∙ g.front k lt;
     }
 
 only_one : (x y : ℕ) → Contains (x ∷ []) y → x ≡ y
 only_one x y c = elim (contains_cases x [] y c) [ inl e ↦ e | inr none ↦ absurd (contains_none y none) ]
+
+-- `dedup` leaves no more elements than there are.
+length_from : {X : Type 0} (same : X → X → Bool) (k : X) (xs : List X) → length (dedup_from same k xs) ≤ suc (length xs)
+length_from same k [] = omega arith
+length_from same k (x ∷ xs) =
+    cond_both (same x k) (dedup_from same k xs) (k ∷ dedup_from same x xs) (λ l. length l ≤ suc (suc (length xs)))
+    (λ _. omega (arith, length_from same k xs))
+    (λ _. omega (arith, length_from same x xs))
+
+pub length_dedup : {X : Type 0} (same : X → X → Bool) (xs : List X) → length (dedup same xs) ≤ length xs
+length_dedup same [] = omega arith
+length_dedup same (x ∷ xs) = length_from same x xs
 
 -- The list with one more at its end.
 one_more_kept : (old new : List ℕ) (x y : ℕ) → new ≡ old ++ x ∷ [] → Contains old y → Contains new y

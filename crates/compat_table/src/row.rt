@@ -1,15 +1,15 @@
 //! Rows of symbols.
 
-ghost use Rattle.std.specs.Prelude.{◌≡◌, ℕ, ◌<◌, [], ◌∷◌, ◌↔◌, IsTrue, OnOk, length};
+ghost use Rattle.std.specs.Prelude.{◌≡◌, ℕ, ◌+◌, ◌<◌, ◌≤◌, ◌^◌, [], ◌∷◌, ◌↔◌, IsTrue, OnOk, length, vec_len};
 ghost use Rattle.std.specs.List.{All, Contains};
 ghost use Rattle.std.specs.List.Sorted.{IsNonDecreasing};
 ghost use Rattle.normal_form.specs.declared.normal.Sym.{Sym as Symbol};
 ghost use Rattle.normal_form.specs.declared.normal.Sym.TheVariants.{Rule};
-ghost use Rattle.compat_table.specs.inner.Rows.{IsAmong, IsGrown, IsMarked};
+ghost use Rattle.compat_table.specs.inner.Rows.{IsAmong, IsGrown, IsMarked, size};
 ghost use Rattle.compat_table.specs.inner.Table.{IsSortedRow};
 ghost use Rattle.compat_table.specs.inner.View.{symbols_of};
 
-use faults::Memory;
+use faults::{Limit, Memory};
 use grammar_names::is_among;
 use normal_form::Sym;
 use std::alloc::Global;
@@ -77,22 +77,29 @@ impl Row {
         Ok(())
     }
 
-    /// Adds symbols.
+    /// Adds symbols that were found, and counts them. Memory runs out where more than 16,777,216 are found.
     pub(crate) fn add(
         &mut self,
         symbols: &[Sym],
         marks: &mut [u32],
         number: u32,
+        found: &mut usize,
     ) -> Result<(), Memory>
         requires symbols { (q : ℕ) → Contains symbols.now (Rule q) → q < length marks.old }
         requires marked { IsMarked marks.old number (symbols_of self.old) }
+        requires few { found.old ≤ 2 ^ 24 }
+        ensures few { OnOk result (found.new ≤ 2 ^ 24) }
+        ensures found { OnOk result (found.new ≡ found.old + length symbols.now) }
         ensures marked { OnOk result (IsMarked marks.new number (symbols_of self.new)) }
         ensures grown { OnOk result (IsGrown symbols.now (symbols_of self.old) (symbols_of self.new)) }
         ensures same { (n : ℕ) → number < n → All (λ m. m < n) marks.old → All (λ m. m < n) marks.new }
     {
+        let count = *found + symbols.len();
+        Limit::Symbols.within(count)?;
         for symbol in symbols {
             self.add_symbol(*symbol, marks, number)?;
         }
+        *found = count;
         Ok(())
     }
 
@@ -111,6 +118,7 @@ impl Row {
     /// The same symbols, each once, by rising numbers.
     pub(crate) fn sorted(self) -> Row
         ensures sorted { IsSortedRow (symbols_of result) }
+        ensures few { size (symbols_of result) ≤ size (symbols_of self) }
         ensures same { (t : Symbol) → (IsAmong (symbols_of result) t → IsAmong (symbols_of self) t)
             × (IsAmong (symbols_of self) t → IsAmong (symbols_of result) t) }
     {
@@ -126,6 +134,7 @@ impl Row {
 /// The same numbers, each once, rising.
 fn rising(mut numbers: Vec<u32>) -> Vec<u32>
     ensures rising { IsNonDecreasing result.items }
+    ensures few { vec_len result ≤ vec_len numbers }
     ensures only { (x : ℕ) → Contains result.items x → Contains numbers.items x }
     ensures all { (x : ℕ) → Contains numbers.items x → Contains result.items x }
 {

@@ -1,10 +1,10 @@
 //! Searches along the symbols that can be alone in an alternative, and those of pluses.
 
-ghost use Rattle.std.specs.Prelude.{◌≡◌, ◌+◌, ◌<◌, ◌^◌, [], ◌∷◌, ◌++◌, IfOk, OnOk, length, map, nat_eq};
+ghost use Rattle.std.specs.Prelude.{◌≡◌, ◌+◌, ◌<◌, ◌≤◌, ◌^◌, [], ◌∷◌, ◌++◌, IfOk, OnOk, length, map, nat_eq};
 ghost use Rattle.std.specs.List.{All, flat_map};
 ghost use Rattle.grammar_check_tables.specs.Flags.{flag};
 ghost use Rattle.normal_form.specs.View.{alts_form, rule_form};
-ghost use Rattle.compat_table.specs.inner.Rows.{IsRowOf, lone_symbols, need as need_of, needed as needed_of, next_symbols};
+ghost use Rattle.compat_table.specs.inner.Rows.{IsRowOf, lone_symbols, need as need_of, needed as needed_of, next_symbols, size, size_of_all};
 ghost use Rattle.compat_table.specs.inner.View.{edges_of, symbols_of};
 ghost use Rattle.compat_table.specs.inner.Table.{AreRowsOf, IsClosed, IsSortedRow};
 
@@ -13,9 +13,6 @@ use crate::row::Row;
 use faults::Memory;
 use normal_form::{NormalRule, Sym};
 use std::alloc::Global;
-
-/// How many symbols may be found for all rules together, each as often as it is found.
-const SYMBOLS: usize = 1 << 24;
 
 /// 0 for a symbol that derives the empty list, where the table says which rules do, and 1 for others.
 fn need(symbol: Sym, flags: &[bool]) -> usize
@@ -102,25 +99,8 @@ pub(crate) fn edges(
     Ok(edges)
 }
 
-/// How many symbols the edges of a rule lead to.
-fn edges_at(edges: &[Vec<Sym>], rule: u32) -> usize {
-    match edges.get(rule as usize) {
-        Some(symbols) => symbols.len(),
-        None => 0,
-    }
-}
-
-/// How many symbols the edges of a rule and of these others lead to, each as often as an edge does.
-fn count_found(edges: &[Vec<Sym>], rule: u32, others: &[u32]) -> usize {
-    let mut count = edges_at(edges, rule);
-    for other in others {
-        count = count.saturating_add(edges_at(edges, *other));
-    }
-    count
-}
-
-/// The symbols that the rule leads to; `found` grows by how many were found, each as often as it was.
-/// It takes time near linear in the edges of the rules that it leads to.
+/// The symbols that the rule leads to; `found` grows by how many were found, each as often as it was, and is
+/// at most 16,777,216. It takes time near linear in the edges of the rules that it leads to.
 fn row_of(
     alloc: Global,
     edges: &[Vec<Sym>],
@@ -133,19 +113,21 @@ fn row_of(
     requires few { length edges.now < 2 ^ 32 }
     requires marks_len { length marks.old ≡ length edges.now }
     requires marks { All (λ m. m < rule + 1) marks.old }
+    requires few_found { found.old ≤ 2 ^ 24 }
+    ensures few_found { OnOk result (found.new ≤ 2 ^ 24) }
+    ensures found { IfOk result (λ row. found.old + size (symbols_of row) ≤ found.new) }
     ensures row { IfOk result (λ row. IsRowOf (edges_of edges.now) rule (symbols_of row)) }
     ensures sorted { IfOk result (λ row. IsSortedRow (symbols_of row)) }
     ensures marks { All (λ m. m < rule + 2) marks.new }
 {
     let mut row = Row::new(alloc);
-    row.add(&edges[rule as usize], marks, rule + 1)?;
+    row.add(&edges[rule as usize], marks, rule + 1, found)?;
     let mut done = 0;
     while done < row.rules.len() {
         let next = row.rules[done];
-        row.add(&edges[next as usize], marks, rule + 1)?;
+        row.add(&edges[next as usize], marks, rule + 1, found)?;
         done += 1;
     }
-    *found = found.saturating_add(count_found(edges, rule, &row.rules));
     Ok(row.sorted())
 }
 
@@ -154,7 +136,8 @@ fn row_of(
 pub(crate) fn rows(alloc: Global, edges: &[Vec<Sym>]) -> Result<Vec<Row>, Memory>
     requires closed { IsClosed (edges_of edges.now) }
     requires few { length edges.now < 2 ^ 32 }
-    ensures { IfOk result (λ rows. AreRowsOf (edges_of edges.now) (map symbols_of rows.items)) }
+    ensures rows { IfOk result (λ rows. AreRowsOf (edges_of edges.now) (map symbols_of rows.items)) }
+    ensures few { IfOk result (λ rows. size_of_all (map symbols_of rows.items) ≤ 2 ^ 24) }
 {
     let mut table = vec![in alloc; 0u32; edges.len()]?;
     let marks = table.as_mut_slice();
@@ -162,9 +145,6 @@ pub(crate) fn rows(alloc: Global, edges: &[Vec<Sym>]) -> Result<Vec<Row>, Memory
     let mut found = 0;
     for rule in 0..edges.len() as u32 {
         let row = row_of(alloc, edges, rule, marks, &mut found)?;
-        if found > SYMBOLS {
-            return Err(Memory);
-        }
         rows.push(row)?;
     }
     Ok(rows)

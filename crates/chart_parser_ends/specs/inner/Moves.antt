@@ -84,7 +84,7 @@ IsRepetitionProgress N kinds w Done = IsRepetition N kinds w × ((x : ℕ) → C
 IsRepetitionProgress N kinds w More = IsRepetition N kinds w
 IsRepetitionProgress N kinds w (Needs rule first) = IsRepetition N kinds w × (first ≤ length kinds)
 
--- The repetition has gone on past the position `from`, or waits at it, and is at `to`: it never begins anew.
+-- The work was at `from`, and is at `to`: a step in place leads on. So it never begins anew.
 abbrev pub IsOnwardTo : ℕ → ℕ → Progress → Type 0
 IsOnwardTo from to Done = from ≤ to
 IsOnwardTo from to More = from < to

@@ -1,5 +1,6 @@
 -- Entries whose ends are in one list, and how their ranges are found.
-use Rattle.std.specs.Prelude.{◌≡◌, ℕ, ◌+◌, ◌<◌, ◌≤◌, Bool, ◌&&◌, List, length, map, Option, Some, None, nat_eq, slice_get, slice_index_or, slice_range}
+use Rattle.std.specs.Prelude.{◌≡◌, ℕ, ◌+◌, ◌<◌, ◌≤◌, Bool, ◌&&◌, List, [], ◌∷◌, ◌++◌, Option, Some, None, Result, OnErr, OnOk}
+use Rattle.std.specs.Prelude.{length, map, nat_eq, slice_get, slice_index_or, slice_range}
 use Rattle.std.specs.HashMap.{HashMap, get}
 use Rattle.std.specs.List.{All, Contains}
 use Rattle.chart_parser_ends.specs.declared.entries.EndsRange.{EndsRange}
@@ -21,9 +22,18 @@ pub record IsRangeOf (rule first : ℕ) (r : EndsRange) : Type 0 where
   pub rule_is : r.rule ≡ rule
   pub first_is : r.first ≡ first
 
+-- how many ranges are in the chain of a position at most: the constant `CHAIN`
+abbrev pub chain_limit : ℕ
+chain_limit = 32
+
 -- The range is in no chain.
 abbrev pub IsApart : EndsRange → Type 0
-IsApart r = 32 < r.depth
+IsApart r = chain_limit < r.depth
+
+-- The range is added to the ranges; after an error they are the same.
+pub record IsAdded {T E : Type 0} (old new : List EndsRange) (r : EndsRange) (result : Result T E) : Type 0 where
+  pub ok : OnOk result (new ≡ old ++ r ∷ [])
+  pub err : OnErr result (new ≡ old)
 
 -- It is the link to the last of the first n ranges that is in the chain of the position `first`: one more than its number, and 0 where none is.
 pub record IsLink (ranges : List EndsRange) (n first link : ℕ) : Type 0 where

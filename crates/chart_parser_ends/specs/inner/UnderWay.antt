@@ -1,5 +1,5 @@
 -- What is worked on until its entry is there.
-use Rattle.std.specs.Prelude.{◌⊎◌, ℕ, List}
+use Rattle.std.specs.Prelude.{◌⊎◌, ◌+◌, ◌-◌, ◌*◌, ◌^◌, ℕ, List, length}
 use Rattle.std.specs.List.{Contains}
 use Rattle.chart_parser_ends.specs.declared.work.Work.{Work}
 use Rattle.chart_parser_ends.specs.inner.Entries.{Entry, HasEntry}
@@ -13,3 +13,7 @@ IsUnderWay entries works rule first = HasEntry entries rule first ⊎ ((w : Work
 abbrev pub KeepsUnderWay : List Entry → List Work → List Entry → List Work → Type 0
 KeepsUnderWay old_entries old_works entries works =
     (rule first : ℕ) → IsUnderWay old_entries old_works rule first → IsUnderWay entries works rule first
+
+-- how much there is still to do at most: entries to come, and after that works to be put on a stack that has `works`
+abbrev pub work_left : List Entry → ℕ → ℕ
+work_left entries works = (2 ^ 32 - length entries) * 2 ^ 65 + (2 ^ 64 - works)

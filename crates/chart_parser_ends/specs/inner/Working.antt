@@ -1,5 +1,5 @@
 -- What the work on an entry has come to.
-use Rattle.std.specs.Prelude.{◌≡◌, ◌⊎◌, ℕ, ◌<◌, ◌≤◌, Bool, true, false, List, [], take, length, Some, None, slice_get, slice_index_or}
+use Rattle.std.specs.Prelude.{◌≡◌, ◌⊎◌, ℕ, ◌+◌, ◌*◌, ◌^◌, ◌<◌, ◌≤◌, Bool, true, false, List, [], take, length, Some, None, slice_get, slice_index_or}
 use Rattle.std.specs.List.{Contains}
 use Rattle.std.specs.List.Sorted.{IsStrictlyIncreasing}
 use Rattle.normal_form.specs.declared.normal.Sym.{Sym}
@@ -11,7 +11,7 @@ use Rattle.chart_parser_ends.specs.declared.optional.Optional.{Optional}
 use Rattle.chart_parser_ends.specs.declared.repetition.Repetition.{Repetition}
 use Rattle.chart_parser_ends.specs.declared.work.RuleEnds.{RuleEnds}
 use Rattle.chart_parser_ends.specs.declared.work.Step.{Step}
-use Rattle.chart_parser_ends.specs.declared.work.Step.TheVariants.{Done, More, Needs}
+use Rattle.chart_parser_ends.specs.declared.work.Step.TheVariants.{Done, Needs}
 use Rattle.chart_parser_ends.specs.declared.work.Work.{Work}
 use Rattle.chart_parser_ends.specs.declared.work.Work.TheVariants as W
 use Rattle.chart_parser_ends.specs.Positions.{HasExactly}
@@ -100,19 +100,25 @@ HasRuleEnds N kinds e = HasExactly (DerivesSpan N kinds (Rule e.rule) e.first) e
 
 abbrev pub IsStep : NormalForm → List ℕ → Step → Type 0
 IsStep N kinds (Done e) = HasRuleEnds N kinds e
-IsStep N kinds (More w) = IsWork N kinds w
 IsStep N kinds (Needs w rule first) = IsWork N kinds w × (first ≤ length kinds)
 
 -- The step is one of the work on the rule at the position `first`.
 abbrev pub IsStepOn : ℕ → ℕ → Step → Type 0
 IsStepOn rule first (Done e) = (e.rule ≡ rule) × (e.first ≡ first)
-IsStepOn rule first (More w) = IsOn rule first w
 IsStepOn rule first (Needs w _ _) = IsOn rule first w
 
--- The repetition has gone on past the position `from`, or waits at it: it never begins anew.
+-- how far the work on a rule with alternatives has come: it grows with each step in place
+abbrev pub choice_progress : Choice → ℕ
+choice_progress w = (w.alternative * 2 ^ 64 + w.symbol) * 2 ^ 64 + w.done
+
+-- The choice is done, or waits where it has come to since `from`: it never begins anew.
+abbrev pub IsChoiceOnward : ℕ → Step → Type 0
+IsChoiceOnward from (Done e) = Unit {0}
+IsChoiceOnward from (Needs (W.Choice w) _ _) = from ≤ choice_progress w
+IsChoiceOnward from (Needs _ _ _) = ⊥
+
+-- The repetition is done, or waits at the position `from` or a later one: it never begins anew.
 abbrev pub IsOnward : ℕ → Step → Type 0
 IsOnward from (Done e) = Unit {0}
-IsOnward from (More (W.Repetition w)) = from < w.from
-IsOnward from (More _) = ⊥
 IsOnward from (Needs (W.Repetition w) _ _) = from ≤ w.from
 IsOnward from (Needs _ _ _) = ⊥

@@ -51,13 +51,22 @@ pub record IsRowOf (edges : List (List Sym)) (r : ℕ) (row : Symbols) : Type 0 
   pub sound : (t : Sym) → IsAmong row t → LeadsTo edges r t
   pub complete : (t : Sym) → LeadsTo edges r t → IsAmong row t
 
+-- how many symbols the row has, each as often as it is there
+abbrev pub size : Symbols → ℕ
+size row = length row.kinds + length row.sets + length row.rules
+
 -- The row has grown by these symbols.
 pub record IsGrown (symbols : List Sym) (old new : Symbols) : Type 0 where
   pub only : (t : Sym) → IsAmong new t → IsAmong old t ⊎ Contains symbols t
   pub kept : (t : Sym) → IsAmong old t → IsAmong new t
   pub added : (t : Sym) → Contains symbols t → IsAmong new t
+  pub few : size new ≤ size old + length symbols
   pub longer : length old.rules ≤ length new.rules
   pub front : (k : ℕ) → k < length old.rules → slice_index new.rules k ≡ slice_index old.rules k
+
+-- how many symbols the rows have in all
+abbrev pub size_of_all : List Symbols → ℕ
+size_of_all rows = sum_by size rows
 
 -- how many rules are not marked by the number
 abbrev pub unmarked : ℕ → List ℕ → ℕ

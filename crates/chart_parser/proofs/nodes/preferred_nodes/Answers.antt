@@ -35,8 +35,8 @@ add_rule_node-requires-clause-derived c =
     let derived = subst (AreDerived N K) turned c.loop-asked.invariant.2 in
     subst (λ (x : ChartInput). AreDerived x.normal x.kinds (asked ∷ rest)) (sym c.loop-asked.invariant.0) derived
 
-pub loop-asked-preserved-in-Continue-branch-2 : goal.loop-asked-preserved-in-Continue-branch-2
-loop-asked-preserved-in-Continue-branch-2 c =
+pub loop-asked-preserved-in-Continue-branch-3 : goal.loop-asked-preserved-in-Continue-branch-3
+loop-asked-preserved-in-Continue-branch-3 c =
     let root : Asked = record { part = record { slot = c.args.start; first = 0; end = length c.args.kinds.now }; parent = None } in
     let N = c.args.chart.now.normal in
     let K = c.args.chart.now.kinds in
@@ -51,7 +51,7 @@ loop-asked-preserved-in-Continue-branch-2 c =
     let nodes = c.add_rule_node.new.nodes.items in
     let before = subst (λ (x : ChartInput). AreBegun x.normal x.kinds root c.loop-asked.nodes.items (asked ∷ rest)) (sym same) begun in (
       node.same ∙ same,
-      omega (arith, node.count, c.if-len.false, c.len.ensures),
+      omega (arith, node.count, c.in_ok-within.ensures.within, c.len.ensures),
       subst (λ (x : ChartInput). AreDerived x.normal x.kinds stack) same node.derived,
       subst (λ (x : ChartInput). AreBegun x.normal x.kinds root nodes stack) same (node.begun root before),
     )
@@ -85,7 +85,7 @@ loop-asked-preserved c =
     let made = leaf_begun N K c.preferred_trees_are_valid.ensures root asked is.kind nodes rest (is.leaf (length nodes)) is.end begun in
     let items = c.in_ok-push-in_default-slot.ensures.items ∙ ap (λ (x : Node). nodes ++ x ∷ []) node in (
       c.loop-asked.invariant.0,
-      omega (arith, c.in_ok-push-in_default-slot.ensures.len, c.if-len.false, c.len.ensures),
+      omega (arith, c.in_ok-push-in_default-slot.ensures.len, c.in_ok-within.ensures.within, c.len.ensures),
       derived.1,
       subst (λ (l : List Node). AreBegun N K root l rest) (sym items) made,
     )

@@ -8,12 +8,12 @@ pub returns-then-range-gt-CHAIN-clause-linked : goal.returns-then-range-gt-CHAIN
 returns-then-range-gt-CHAIN-clause-linked c linked =
     let ranges = c.args.ranges.now.items in
     let last = c.args.last.now.items in
-    added_or_not (λ rs. AreLinked rs last) ranges c.add_numbered.new.ranges.items c.args.range c.add_numbered.result c.add_numbered.ensures.ok
-    c.add_numbered.ensures.err linked (linked_apart ranges last c.args.range linked c.requires.earlier (omega (arith, c.if-range-gt-CHAIN.true)))
+    added_or_not (λ rs. AreLinked rs last) ranges c.add_numbered.new.ranges.items c.args.range c.add_numbered.result c.add_numbered.ensures.added.ok
+    c.add_numbered.ensures.added.err linked (linked_apart ranges last c.args.range linked c.requires.earlier (omega (arith, c.if-range-gt-CHAIN.true)))
 
 pub returns-else-range-gt-CHAIN-clause-numbered : goal.returns-else-range-gt-CHAIN-clause-numbered
 returns-else-range-gt-CHAIN-clause-numbered c numbered =
     let ranges = c.args.ranges.now.items in
     let numbers = c.args.numbers.now in
-    added_or_not (λ rs. IsNumbered rs numbers) ranges c.add_chained.new.ranges.items c.args.range c.add_chained.result c.add_chained.ensures.ok
-    c.add_chained.ensures.err numbered (numbered_same ranges numbers c.args.range (omega (arith, c.if-range-gt-CHAIN.false)) numbered)
+    added_or_not (λ rs. IsNumbered rs numbers) ranges c.add_chained.new.ranges.items c.args.range c.add_chained.result c.add_chained.ensures.added.ok
+    c.add_chained.ensures.added.err numbered (numbered_same ranges numbers c.args.range (omega (arith, c.if-range-gt-CHAIN.false)) numbered)

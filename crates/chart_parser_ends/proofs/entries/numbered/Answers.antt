@@ -23,4 +23,5 @@ returns-in-Some-clause-of c =
     number_is ranges c.args.rule c.args.first c.in-Some.number.now _ is
 
 pub returns-in-None-clause-none : goal.returns-in-None-clause-none
-returns-in-None-clause-none c = subst (IsNumberOf c.args.ranges.now c.args.rule c.args.first) (sym c.in-None.ensures.value) (c.requires c.args.rule c.args.first)
+returns-in-None-clause-none c =
+    subst (IsNumberOf c.args.ranges.now c.args.rule c.args.first) (sym c.in-None.ensures.value) (c.requires c.args.rule c.args.first)

@@ -16,9 +16,10 @@ returns-in_ok-push-clause-with c =
 
 pub returns-in_ok-insert-clause-rising : goal.returns-in_ok-insert-clause-rising
 returns-in_ok-insert-clause-rising c =
+    let value = c.deref-else-is_past.ensures.value in
     subst IsStrictlyIncreasing (sym c.in_ok-insert.ensures.items)
     (search_missing c.args.positions.now.items c.args.position c.binary_search.result c.in-Err.at
-    (subst (λ l. IsBinarySearchResult (λ y. nat_cmp y c.args.position) l c.binary_search.result) c.deref-else-is_past.ensures.value c.binary_search.ensures.position)
+    (subst (λ l. IsBinarySearchResult (λ y. nat_cmp y c.args.position) l c.binary_search.result) value c.binary_search.ensures.position)
     c.requires c.in-Err.is)
 
 pub returns-in_ok-insert-clause-with : goal.returns-in_ok-insert-clause-with

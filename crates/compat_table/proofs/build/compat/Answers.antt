@@ -57,7 +57,7 @@ stars-requires c =
       few,
       ap length is,
       length-map N.rules (next_symbols nulls),
-      c.in_ok-rows.ensures.for_each,
+      c.in_ok-rows.ensures.rows.for_each,
       length-map c.in_ok-rows.rows.items symbols_of,
       ap length c.deref-3.ensures.value,
     )
@@ -68,5 +68,5 @@ invariant_of-result c =
     let nulls = flag c.deref.result.now in
     let is = edges_are N nulls c.deref-2.result.now c.in_ok-edges.edges.items _ c.deref-2.ensures.value c.in_ok-edges.ensures c.rules-rules.ensures in
     table_of N _ nulls c.deref-2.result.now c.deref-3.result.now c.in_ok-rows.rows.items c.in_ok-stars.stars.items _
-    (flags_read N c.deref.result.now c.in_ok-flags.flags.items c.deref.ensures.value c.in_ok-flags.ensures) is c.in_ok-rows.ensures c.deref-3.ensures.value
+    (flags_read N c.deref.result.now c.in_ok-flags.flags.items c.deref.ensures.value c.in_ok-flags.ensures) is c.in_ok-rows.ensures.rows c.deref-3.ensures.value
     c.rules-rules.ensures c.in_ok-stars.ensures c.in_ok-normal.ensures

@@ -2,7 +2,7 @@ use Rattle.std.proofs.Common.{◌≡◌, ◌+◌, ◌<◌, length, slice_index, 
 use Rattle.std.specs.Global.{Vec}
 use Rattle.normal_form.specs.declared.normal.Sym.{Sym}
 use Rattle.std.proofs.lemmas.List.{get_or_default, length-map}
-use Rattle.compat_table.specs.inner.Rows.{Symbols}
+use Rattle.compat_table.specs.inner.Rows.{Symbols, size}
 use Rattle.compat_table.specs.inner.View.{edges_of, symbols_of}
 use Rattle.compat_table.proofs.Searching.{marked_none, none_among, row_at, search_begun, search_more, searched_whole}
 use Rattle.compat_table.proofs.search.row_of.Goals as goal
@@ -28,6 +28,8 @@ loop-done-init c =
       marked = c.in_ok-add.ensures.marked;
       below = c.in_ok-add.ensures.same (c.args.rule + 2) (omega arith) (λ k d lt. omega (arith, c.requires.marks k d lt));
       within = omega arith;
+      few_found = c.in_ok-add.ensures.few;
+      found = omega (arith, c.in_ok-add.ensures.found, c.in_ok-add.ensures.grown.few, ap size c.new-row.ensures);
     }
 
 pub bounds-edges-next : goal.bounds-edges-next
@@ -70,6 +72,8 @@ loop-done-preserved c =
       marked = c.in_ok-add-2.ensures.marked;
       below = c.in_ok-add-2.ensures.same (c.args.rule + 2) (omega arith) c.loop-done.invariant.below;
       within = omega (arith, lt, grown.longer, c.add-in-loop-done.new.self.rules.ok.0);
+      few_found = c.in_ok-add-2.ensures.few;
+      found = omega (arith, c.in_ok-add-2.ensures.found, grown.few, c.loop-done.invariant.found);
     }
 
 pub returns-clause-row : goal.returns-clause-row
@@ -82,3 +86,6 @@ returns-clause-row c =
       sound = λ t at. whole.sound t ((c.sorted.ensures.same t).0 at);
       complete = λ t path. (c.sorted.ensures.same t).1 (whole.complete t path);
     }
+
+pub returns-clause-found : goal.returns-clause-found
+returns-clause-found c = omega (arith, c.loop-done.invariant.found, c.sorted.ensures.few)

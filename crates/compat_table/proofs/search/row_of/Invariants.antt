@@ -1,6 +1,6 @@
-use Rattle.std.proofs.Common.{◌+◌, ◌-◌, ◌<◌, ◌≤◌, length, vec_len}
+use Rattle.std.proofs.Common.{◌+◌, ◌-◌, ◌^◌, ◌<◌, ◌≤◌, length, vec_len}
 use Rattle.std.specs.List.{All}
-use Rattle.compat_table.specs.inner.Rows.{IsMarked, IsSearched}
+use Rattle.compat_table.specs.inner.Rows.{IsMarked, IsSearched, size}
 use Rattle.compat_table.specs.inner.View.{edges_of, symbols_of}
 use Rattle.compat_table.proofs.search.row_of.Given as goal
 
@@ -11,6 +11,8 @@ invariant-loop-done l =
       marked : IsMarked l.marks (l.rule + 1) (symbols_of l.row);
       below : All (λ m. m < l.rule + 2) l.marks;
       within : l.done ≤ vec_len l.row.rules;
+      few_found : l.found ≤ 2 ^ 24;
+      found : l.fn.found + size (symbols_of l.row) ≤ l.found;
     }
 
 abbrev pub decreases-loop-done : goal.decreases-loop-done

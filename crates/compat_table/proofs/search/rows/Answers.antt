@@ -1,7 +1,8 @@
 use Rattle.std.proofs.Common.{◌≡◌, inl, inr, ℕ, List, ◌++◌, [], ◌∷◌, Some, length, map, slice_get, ap, ◌∙◌, subst, arith}
-use Rattle.std.proofs.lemmas.List.{length-append}
+use Rattle.std.proofs.lemmas.List.{length-append, map-append}
+use Rattle.std.proofs.lemmas.List.Sums.{sum_by-append, sum_by-cons}
 use Rattle.compat_table.specs.declared.row.Row.{Row}
-use Rattle.compat_table.specs.inner.Rows.{IsRowOf, Symbols}
+use Rattle.compat_table.specs.inner.Rows.{IsRowOf, Symbols, size, size_of_all}
 use Rattle.compat_table.specs.inner.Table.{IsSortedRow}
 use Rattle.compat_table.specs.inner.View.{edges_of, symbols_of}
 use Rattle.compat_table.proofs.Searching.{got_more}
@@ -25,6 +26,12 @@ loop-rule-preserved c =
             let same : c.loop-rule.rule ≡ r = omega (arith, last.0, c.loop-rule.invariant.so_far) in
             subst (λ (i : ℕ). IsRowOf E i y) same (subst (λ (z : Symbols). IsRowOf E c.loop-rule.rule z) last.1 c.in_ok-row.ensures.row)
       ];
+      few = c.in_ok-row.ensures.few_found;
+      found =
+          let all = ap (λ (rows : List Row). size_of_all (map symbols_of rows)) pushed in
+          let more = sum_by-append size (map symbols_of old) (symbols_of row ∷ []) in
+          let one = sum_by-cons size (symbols_of row) [] in
+          omega (arith, all, ap size_of_all (map-append symbols_of old (row ∷ [])), more, one, c.in_ok-row.ensures.found, c.loop-rule.invariant.found);
       sorted = λ r y e. elim (got_more symbols_of old row r y (at r y e)) [
         | inl before ↦ c.loop-rule.invariant.sorted r y before
         | inr last ↦ subst IsSortedRow last.1 c.in_ok-row.ensures.sorted

@@ -10,7 +10,7 @@ pub returns-in_ok-with_entry-in-Ok-clause-progress : goal.returns-in_ok-with_ent
 returns-in_ok-with_entry-in-Ok-clause-progress c =
     takes_entry c.args.table.now.input.normal c.args.table.now.input.kinds c.args.self.now c.with_entry.new.self c.in-Some.position
     c.in-Ok.ends.now c.requires
-    c.in-Some.ensures c.in-Ok.ensures.ends c.in_ok-with_entry-in-Ok.ensures
+    c.in-Some.ensures.least c.in-Ok.ensures.ends c.in_ok-with_entry-in-Ok.ensures
 
 pub returns-in_ok-with_entry-in-Ok-clause-onward : goal.returns-in_ok-with_entry-in-Ok-clause-onward
-returns-in_ok-with_entry-in-Ok-clause-onward c = omega (arith, c.in-Some.ensures.above, c.in_ok-with_entry-in-Ok.ensures.from)
+returns-in_ok-with_entry-in-Ok-clause-onward c = omega (arith, c.in-Some.ensures.least.above, c.in_ok-with_entry-in-Ok.ensures.from)

@@ -18,12 +18,17 @@ returns-in-Done-clause-step c =
     (subst IsNormal c.normal.ensures c.is_normal.ensures) done.0 done.1 c.rule_ends.ensures.rule c.rule_ends.ensures.first
     c.rule_ends.ensures.ends
 
-pub loop-made-preserved : goal.loop-made-preserved
-loop-made-preserved c = record {
+pub loop-self-preserved : goal.loop-self-preserved
+loop-self-preserved c = record {
   work =
       subst (IsRepetitionProgress c.args.table.now.input.normal c.args.table.now.input.kinds c.advance.new.self) c.in-More.is c.in_ok-advance.ensures.progress;
-  rule = c.in_ok-advance.ensures.rule ∙ c.loop-made.invariant.rule;
-  first = c.in_ok-advance.ensures.first ∙ c.loop-made.invariant.first;
+  rule = c.in_ok-advance.ensures.rule ∙ c.loop-self.invariant.rule;
+  first = c.in_ok-advance.ensures.first ∙ c.loop-self.invariant.first;
   from =
-      omega (arith, c.loop-made.invariant.from, subst (IsOnwardTo c.loop-made.self.from c.advance.new.self.from) c.in-More.is c.in_ok-advance.ensures.onward);
+      omega (arith, c.loop-self.invariant.from, subst (IsOnwardTo c.loop-self.self.from c.advance.new.self.from) c.in-More.is c.in_ok-advance.ensures.onward);
 }
+
+pub loop-self-smaller : goal.loop-self-smaller
+loop-self-smaller c =
+    let onward = subst (IsOnwardTo c.loop-self.self.from c.advance.new.self.from) c.in-More.is c.in_ok-advance.ensures.onward in
+    omega (arith, onward, c.advance.ensures.range)

@@ -19,8 +19,8 @@ loop-done-preserved c =
       same = c.in_ok-predict_next.ensures.same
           ∙ c.loop-done.invariant.same;
       walk = c.in_ok-predict_next.ensures.walk;
-      closed = c.in_ok-predict_next.ensures.more c.if-not-branch.false;
+      closed = c.in_ok-predict_next.ensures.more c.if-branch.true;
     }
 
-pub returns-then-not-branch-clause-closed : goal.returns-then-not-branch-clause-closed
-returns-then-not-branch-clause-closed c = c.in_ok-predict_next.ensures.all c.if-not-branch.true
+pub returns-clause-closed : goal.returns-clause-closed
+returns-clause-closed c = c.in_ok-predict_next.ensures.all c.if-branch.false

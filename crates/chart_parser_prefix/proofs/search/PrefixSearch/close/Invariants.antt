@@ -1,4 +1,4 @@
-use Rattle.std.proofs.Common.{◌≡◌}
+use Rattle.std.proofs.Common.{◌≡◌, ◌-◌, ◌^◌}
 use Rattle.chart_parser_prefix.specs.inner.Walk.{IsClosedTo, IsWalk}
 use Rattle.chart_parser_prefix.proofs.search.PrefixSearch.close.Given as goal
 
@@ -8,3 +8,6 @@ invariant-loop-done l = record {
   walk : IsWalk l.self.normal.now l.self.kinds.now l.self.start l.position l.lists.items;
   closed : IsClosedTo l.self.normal.now l.self.kinds.now l.position l.done l.lists.items;
 }
+
+abbrev pub decreases-loop-done : goal.decreases-loop-done
+decreases-loop-done l = 2 ^ 64 - l.done
