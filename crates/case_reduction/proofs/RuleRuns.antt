@@ -5,6 +5,7 @@ use Rattle.std.proofs.lemmas.Result.{IfOk-weaker}
 use Rattle.std.specs.List.{AllByRecursion}
 use Rattle.std.proofs.lemmas.List.Elements.{recursion_from_All}
 use Rattle.faults.specs.Count.{Rose}
+use Rattle.faults.specs.Memory.{ran_out}
 use Rattle.script_gate_trait.specs.declared.gate.Verdict.TheVariants.{Yes, No}
 use Rattle.script_gate_trait.specs.declared.log.Log.{Log}
 use Rattle.script_gate_trait.specs.Rule.{rule_verdict}
@@ -67,7 +68,7 @@ module _ (mode : TreeMode) (number size : ℕ) (problem : Problem) (of : IsCaseP
   -- it fails only where memory runs out
   pub only_memory : {G : Type 0} (log : G → Option Log) (workers : List (Worker G)) → run.after.gates ≡ seen_gates log (λ _. 0) workers
       → run.after.journal.faults ≡ 0
-      → CasesGetYes → 1 ≤ size → (fault : RunFault) → RunFails admits_all problem run fault → fault ≡ run_fault.Memory
+      → CasesGetYes → 1 ≤ size → (fault : RunFault) → RunFails admits_all problem run fault → fault ≡ run_fault.Memory ran_out
   only_memory log workers gates quiet get_yes some run_fault.NotInteresting why =
       absurd (not_refused (records_of run.history) (recursion_from_All _ (records_of run.history) by) (start_text problem)
       (ap (rule_verdict 23121) (begins_with_case mode number size problem of) ∙ get_yes number size some) why.0.first)
@@ -76,7 +77,7 @@ module _ (mode : TreeMode) (number size : ℕ) (problem : Problem) (of : IsCaseP
       absurd (none_rose counts log workers why.0.0 (subst (λ (after : List SeenGate). RoseAtIndex counts (fault_counts_of after) why.0.0) gates why.0.2))
   only_memory log workers gates quiet get_yes some run_fault.Journal why =
       absurd (never_rose run.before.journal.faults (subst (λ (count : ℕ). Rose run.before.journal.faults count) quiet why.0))
-  only_memory log workers gates quiet get_yes some run_fault.Memory why = refl
+  only_memory log workers gates quiet get_yes some (run_fault.Memory _) why = refl
 
   -- the report's first lines and the text are the summary
   pub is_summary : ProblemsReduceAlike → (text : List ℕ) (counts : Counts) → ReducesFrom run.workers (verdict_in run.kept) admits_all problem run.history
@@ -113,7 +114,7 @@ module _ (mode : TreeMode) (number size : ℕ) (read : ReadProblem)
 
   pub ends_in_memory : {G : Type 0} (log : G → Option Log) (workers : List (Worker G)) → run.after.gates ≡ seen_gates log (λ _. 0) workers
       → run.after.journal.faults ≡ 0
-      → CasesGetYes → 1 ≤ size → (fault : RunFault) → run.outcome ≡ Err fault → fault ≡ run_fault.Memory
+      → CasesGetYes → 1 ≤ size → (fault : RunFault) → run.outcome ≡ Err fault → fault ≡ run_fault.Memory ran_out
   ends_in_memory log workers gates quiet get_yes some fault is =
       only_memory mode number size of.0 of.2 run by log workers gates quiet get_yes some fault (subst (ProblemEnds admits_all of.0 run) is its_end)
 

@@ -1,6 +1,7 @@
 //! The reduction.
 
 ghost use Rattle.std.specs.Prelude.{◌≡◌, ◌≤◌, None, IfOk};
+ghost use Rattle.faults.specs.Memory.{ran_out};
 ghost use Rattle.grammar_load.specs.Answer.{Spells};
 ghost use Rattle.case_maker.specs.Mini.{mini_text};
 ghost use Rattle.run_gated.specs.declared.fault.RunFault.TheVariants.{Memory as OutOfMemory};
@@ -35,7 +36,7 @@ fn mini(alloc: Global) -> Result<Checked, Memory>
     mini_is_spelled();
     match checked_grammar(alloc, mini_grammar(), None) {
         Ok(grammar) => Ok(grammar),
-        Err(GrammarFault::Memory) => Err(Memory),
+        Err(GrammarFault::Memory(memory)) => Err(memory),
         // The text spells a well-formed grammar.
         Err(_) => unreachable!(),
     }
@@ -64,7 +65,7 @@ fn case_problem(
             squeeze: false,
             respell: false,
         }),
-        Err(InputFault::Memory) => Err(Memory),
+        Err(InputFault::Memory(memory)) => Err(memory),
         // Each program is in the grammar's language.
         Err(_) => unreachable!(),
     }
@@ -73,10 +74,10 @@ fn case_problem(
 /// Why a run of a program over the rule has no result: the rule says yes to each program, and neither
 /// it nor the sink ever fails.
 fn memory_of(fault: RunFault) -> Memory
-    requires { fault ≡ OutOfMemory }
+    requires { fault ≡ OutOfMemory ran_out }
 {
     match fault {
-        RunFault::Memory => Memory,
+        RunFault::Memory(memory) => memory,
         _ => unreachable!(),
     }
 }

@@ -39,7 +39,7 @@ use reduce_journal::{Journal, digest_of};
 use reduce_rounds::{ReducerStep, Rounds};
 use reduce_step::{Step, TreeMode};
 use reduce_trees::{HasInput, TreeParts, TreeReducer, TreeRound, hdd_reducer, perses_reducer};
-use reduce_trees_input::{ParsedInput, inputs_are_one, parsed_input};
+use reduce_trees_input::{InputFault, ParsedInput, inputs_are_one, parsed_input};
 use reduce_walk::TreeWalk;
 use run_problem::tree_parts;
 use script_gate_trait::Bytes;
@@ -186,8 +186,9 @@ fn found_in_start(alloc: Global, checked: &Checked, start: &str) -> Result<Parse
 {
     match parsed_input(alloc, checked, start.as_bytes()) {
         Ok(found) => Ok(found),
-        // The start is in the language, so that memory ran out.
-        Err(_) => Err(Memory),
+        Err(InputFault::Memory(memory)) => Err(memory),
+        // The start is in the language.
+        Err(_) => unreachable!(),
     }
 }
 
@@ -225,7 +226,7 @@ fn perses_finding<'a, C: Candidates>(
     reducers_ask_candidates();
     match perses_reducer(alloc, parts) {
         Ok(reducer) => walk_finding(alloc, reducer, candidates, files),
-        Err(_) => Err(Memory),
+        Err(memory) => Err(memory),
     }
 }
 
@@ -247,7 +248,7 @@ fn hdd_finding<'a, C: Candidates>(
     reducers_ask_candidates();
     match hdd_reducer(alloc, parts) {
         Ok(reducer) => walk_finding(alloc, reducer, candidates, files),
-        Err(_) => Err(Memory),
+        Err(memory) => Err(memory),
     }
 }
 
@@ -365,7 +366,7 @@ fn trees_finding(
 {
     match found_in_start(alloc, checked, start) {
         Ok(found) => found_finding(alloc, checked, start, found, keeps, mode, squeezes, files),
-        Err(_) => Err(Memory),
+        Err(memory) => Err(memory),
     }
 }
 

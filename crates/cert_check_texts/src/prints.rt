@@ -1,6 +1,7 @@
 //! Whether a text is printed in one style of some of a start's tokens.
 
-ghost use Rattle.std.specs.Prelude.{◌≡◌, ◌↔◌, ◌<◌, ◌^◌, ℕ, List, [], All, None, Some, IfOk, IsTrue, MatchOption, OnOk, length, map, nat_eq, cond, suc};
+ghost use Rattle.std.specs.Prelude.{◌≡◌, ◌↔◌, ◌<◌, ◌+◌, ◌-◌, ◌*◌, ◌^◌, ℕ, List, [], All, None, Some, IfOk, IsTrue, MatchOption, OnOk, length, map, min};
+ghost use Rattle.std.specs.Prelude.{nat_eq, cond, suc};
 ghost use Rattle.lexer.specs.Tokens.{token_of};
 ghost use Rattle.token_laws.specs.Laws.{AreInOrder, IsSlice};
 ghost use Rattle.token_laws.specs.Spelling.{gap_text, spelling, spelling_at};
@@ -15,19 +16,18 @@ use crate::line_texts::index_from;
 use crate::numbers::Numbers;
 use crate::prefix::{rest_after, rest_from};
 use crate::reached::{FEW, Reached, first_few, first_pairs, united};
-use faults::Memory;
+use faults::{Limit, Memory};
 use lexer::Token;
 use std::alloc::Global;
 use token_print::{Layout, Style, spelling};
 
-/// How many pairs of what is reached and a token of the start are tried at most for one token of a text.
-/// A start of 2^20 bytes has at most 2^20 tokens, so there are no more where one offset is reached.
-const MOST_TRIED: usize = 2_097_152;
-
-/// Whether more pairs would be tried: one for each that is reached, and one for each offset and token of
-/// the spelling.
-fn are_too_many(reached: usize, offsets: usize, equal: usize) -> bool {
-    offsets.saturating_mul(equal).saturating_add(reached) > MOST_TRIED
+/// How many pairs are tried: one for each that is reached, and one for each offset and token of the
+/// spelling. A start of 2^20 bytes has at most 2^20 tokens, so they are within their limit where one
+/// offset is reached.
+fn count_tries(reached: usize, offsets: usize, equal: usize) -> usize
+    ensures { result ≡ min (min (offsets * equal) (2 ^ 64 - 1) + reached) (2 ^ 64 - 1) }
+{
+    offsets.saturating_mul(equal).saturating_add(reached)
 }
 
 /// What is printed between each token of the start and the kept one before it, where the token's own gap
@@ -248,7 +248,7 @@ impl<'a, 's> Print<'a, 's> {
 
     /// What is reached after a token of this spelling, sorted, and each pair once. Each pair that is
     /// reached is tried with the token that follows, and each offset with the tokens of the spelling.
-    /// Where there are more tries than `MOST_TRIED`, the answer is `Memory`.
+    /// Where these are more than `Limit::Tries`, the answer is `Memory`.
     fn after_token(&self, reached: &[Reached], spelling: &str) -> Result<Vec<Reached>, Memory>
         requires { IsLaidOut self.now }
         ensures next { IfOk result (λ next. AreAfterToken self.now reached.now spelling.now next.items) }
@@ -256,9 +256,7 @@ impl<'a, 's> Print<'a, 's> {
     {
         let firsts = first_pairs(self.alloc, reached)?;
         let equal = self.equal.with(spelling.as_bytes());
-        if are_too_many(reached.len(), firsts.len(), equal.len()) {
-            return Err(Memory);
-        }
+        Limit::Tries.within(count_tries(reached.len(), firsts.len(), equal.len()))?;
         let next = self.after_next_token(reached, spelling)?;
         let later = self.after_later_token(&firsts, spelling)?;
         united(next, &later)

@@ -71,10 +71,12 @@ fn tokens_of_start(lexer: &Lexer, start: &str) -> Result<Tokens, Memory>
     requires language { InLanguage lexer.now start.now }
     ensures { IfOk result (λ tokens. HasTokens lexer.now.grammar (chars start.now) (tokens_in tokens)) }
 {
+    tokens_have_no_stop();
     match lexer.lex(start) {
         Ok(tokens) => Ok(tokens),
-        // The text has tokens, so that memory ran out.
-        Err(_) => Err(Memory),
+        // The text has tokens.
+        Err(LexFault::NoToken { .. }) => unreachable!(),
+        Err(LexFault::Memory(memory)) => Err(memory),
     }
 }
 
@@ -142,7 +144,7 @@ impl<'s, 'k> TreeTexts<'s, 'k> {
         match self.lexer.lex(text) {
             Ok(tokens) => Ok(Some(tokens)),
             Err(LexFault::NoToken { .. }) => Ok(None),
-            Err(LexFault::Memory) => Err(Memory),
+            Err(LexFault::Memory(memory)) => Err(memory),
         }
     }
 

@@ -45,7 +45,7 @@ impl StartText {
         let pieces = match lexer.pieces(text.as_str()) {
             Ok(pieces) => pieces,
             Err(LexFault::NoToken { .. }) => unreachable!(),
-            Err(LexFault::Memory) => return Err(Memory),
+            Err(LexFault::Memory(memory)) => return Err(memory),
         };
         Ok(StartText {
             text,

@@ -14,7 +14,7 @@ ghost use Rattle.reduce_trees.specs.WalkMode.{walk_mode};
 
 use crate::laws::walks_are_lawful;
 use crate::parts::{HasInput, TreeParts};
-use crate::trial::{Trial, opening_trial, trial_of};
+use crate::trial::{Trial, opening_trial, try_next};
 use faults::Memory;
 use keep_guard::Relation;
 use reduce_rounds::Round;
@@ -35,7 +35,7 @@ pub struct TreeRound<'a, F: Relation, W: TreeWalk + Drop> {
     style: Style,
     walk: W,
 
-    /// It is over after an error.
+    /// Over or refused after an error.
     trial: Trial,
     ghost agrees: { Agrees (input_of parts.now.start.grammar parts.now.formed parts.now.tree parts.now.start.bytes parts.now.tokens.items.items
         (F.admits parts.now.guard) parts.now.squeezes) style (W.tree walk) (W.left walk) (W.rest walk) trial } by { agrees_prop
@@ -70,17 +70,15 @@ impl<'a, F: Relation, W: TreeWalk + Drop> TreeRound<'a, F, W> {
         })
     }
 
-    /// The tokens of the last yes, where nothing more is tried, by their numbers, which rise. A round that is
-    /// spent after an error gives `Memory` again.
+    /// The tokens of the last yes, where nothing more is tried, by their numbers, which rise. Where memory
+    /// ran out for what would be tried next, that error comes again.
     pub fn kept(&self) -> Result<Vec<u32>, Memory>
         requires { ⟦<TreeRound<'a, F, W> as Round>⟧.rest self.now ≡ Done }
         ensures tokens { IfOk result (λ kept. kept.items ≡ leaves (⟦<TreeRound<'a, F, W> as Round>⟧.state self.now).tree) }
         ensures rising { IfOk result (λ kept. IsStrictlyIncreasing kept.items) }
         ensures kept { IfOk result (λ kept. IsKept (⟦<TreeRound<'a, F, W> as Round>⟧.input self.now) (⟦<TreeRound<'a, F, W> as Round>⟧.state self.now)) }
     {
-        if !self.walk.is_over() {
-            return Err(Memory);
-        }
+        self.trial.refusal()?;
         let kept = self.walk.left_tokens()?;
         Ok(kept)
     }
@@ -148,15 +146,20 @@ impl<'a, F: Relation, W: TreeWalk + Drop> Round for TreeRound<'a, F, W> {
 
     fn answer(&mut self, yes: bool) -> Result<(), Memory> {
         match mem::replace(&mut self.trial, Trial::Over) {
-            Trial::Over => Ok(()),
+            Trial::Over | Trial::Refused(_) => Ok(()),
             Trial::Squeezed(_) => {
                 self.style = style_after(self.style, yes);
                 Ok(())
             }
             Trial::Edit(_) => {
                 self.walk.answer(yes)?;
-                self.trial = trial_of(self.alloc, self.parts, self.style, &self.walk)?;
-                Ok(())
+                try_next(
+                    self.alloc,
+                    self.parts,
+                    self.style,
+                    &self.walk,
+                    &mut self.trial,
+                )
             }
         }
     }
@@ -166,8 +169,13 @@ impl<'a, F: Relation, W: TreeWalk + Drop> Round for TreeRound<'a, F, W> {
         walks_are_lawful::<W>();
         self.trial = Trial::Over;
         self.walk.begin_round()?;
-        self.trial = trial_of(self.alloc, self.parts, self.style, &self.walk)?;
-        Ok(())
+        try_next(
+            self.alloc,
+            self.parts,
+            self.style,
+            &self.walk,
+            &mut self.trial,
+        )
     }
 
     fn next_phase(&mut self) -> Result<bool, Memory> {

@@ -1,10 +1,10 @@
 //! What is tried now, with its candidate.
 
-ghost use Rattle.std.specs.Prelude.{◌≡◌, IfOk, option_copied};
+ghost use Rattle.std.specs.Prelude.{◌≡◌, IfOk, OnOk, option_copied};
 ghost use Rattle.reduce_trees_mode.specs.Listed.{MayKeepStyle};
 ghost use Rattle.reduce_trees_mode.specs.TreeTrials.{opening_trials, trials_in};
 ghost use Rattle.reduce_trees.specs.Fields.{IsTreeOf};
-ghost use Rattle.reduce_trees.specs.inner.Fields.{AreCopies, IsTried, candidate_in, rest_of};
+ghost use Rattle.reduce_trees.specs.inner.Fields.{AreCopies, IsMade, IsTried, candidate_in, rest_of};
 ghost use Rattle.token_print.specs.declared.style.Style.{Style as TextStyle};
 ghost use Rattle.reduce_rounds.specs.Trials.{Done};
 
@@ -30,6 +30,9 @@ pub(crate) enum Trial {
 
     /// The tree that the walk tries, in the style of the last yes.
     Edit(Candidate),
+
+    /// Nothing more is tried, since memory ran out.
+    Refused(Memory),
 }
 
 impl Trial {
@@ -47,6 +50,17 @@ impl Trial {
                 let copy = candidate.copy()?;
                 Ok(Trial::Edit(copy))
             }
+            Trial::Refused(memory) => Ok(Trial::Refused(*memory)),
+        }
+    }
+
+    /// Refused where memory ran out.
+    pub(crate) fn refusal(&self) -> Result<(), Memory>
+        ensures { OnOk result (IsMade self.now) }
+    {
+        match self {
+            Trial::Over | Trial::Squeezed(_) | Trial::Edit(_) => Ok(()),
+            Trial::Refused(memory) => Err(*memory),
         }
     }
 
@@ -58,6 +72,7 @@ impl Trial {
             Trial::Over => None,
             Trial::Squeezed(candidate) => Some(candidate),
             Trial::Edit(candidate) => Some(candidate),
+            Trial::Refused(_) => None,
         }
     }
 }
@@ -89,8 +104,34 @@ pub(crate) fn opening_trial<F: Relation>(
     Ok(Trial::Squeezed(candidate))
 }
 
+/// Takes the tree that the walk tries now as what is tried, or keeps what was refused.
+pub(crate) fn try_next<F: Relation, W: TreeWalk>(
+    alloc: Global,
+    parts: &TreeParts<F>,
+    style: Style,
+    walk: &W,
+    trial: &mut Trial,
+) -> Result<(), Memory>
+    requires tree { IsTreeOf (⟦<TreeParts<F> as HasInput>⟧.input parts.now) (W.tree walk.now) }
+    requires may_keep { MayKeepStyle (⟦<TreeParts<F> as HasInput>⟧.input parts.now) style }
+    ensures tried { IsTried (⟦<TreeParts<F> as HasInput>⟧.input parts.now) style (W.left walk.now) (W.rest walk.now) trial.new }
+    ensures rest { OnOk result (rest_of (⟦<TreeParts<F> as HasInput>⟧.input parts.now) style (W.rest walk.now) trial.new ≡ trials_in style
+        (W.rest walk.now)) }
+{
+    match trial_of(alloc, parts, style, walk) {
+        Ok(next) => {
+            *trial = next;
+            Ok(())
+        }
+        Err(memory) => {
+            *trial = Trial::Refused(memory);
+            Err(memory)
+        }
+    }
+}
+
 /// The tree that the walk tries now, with its candidate.
-pub(crate) fn trial_of<F: Relation, W: TreeWalk>(
+fn trial_of<F: Relation, W: TreeWalk>(
     alloc: Global,
     parts: &TreeParts<F>,
     style: Style,

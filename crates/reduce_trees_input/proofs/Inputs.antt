@@ -6,6 +6,7 @@ use Rattle.std.specs.Str.{chars, IsUtf8}
 use Rattle.std.proofs.lemmas.Slice.{between_from_start}
 use Rattle.std.proofs.Math.Path.{path_j'}
 use Rattle.std.proofs.Math.Seq.{take-length}
+use Rattle.faults.specs.Memory.{ran_out}
 use Rattle.grammar_tree.specs.Written.{CheckedGrammar}
 use Rattle.grammar_tree.specs.Checked.{IsChecked, StartDerives}
 use Rattle.grammar_tree.specs.Faults.{IsWellFormed}
@@ -87,14 +88,14 @@ module _ (grammar : CheckedGrammar) (text : List ℕ) where
   language_of (Err fault) of = tt
 
   -- a fault of a text in the language is out of memory
-  only_memory : HasOneFault grammar text → (fault : InputFault) → IsInputFault grammar text fault → InLanguage grammar text → fault ≡ Memory
+  only_memory : HasOneFault grammar text → (fault : InputFault) → IsInputFault grammar text fault → InLanguage grammar text → fault ≡ Memory ran_out
   only_memory one (NotUtf8 offset) why of = absurd (one.refused (NotUtf8 offset) (λ is. cc is) why of)
   only_memory one (NoToken offset) why of = absurd (one.refused (NoToken offset) (λ is. cc is) why of)
   only_memory one NoParse why of = absurd (one.refused NoParse (λ is. cc is) why of)
-  only_memory one Memory why of = refl
+  only_memory one (Memory _) why of = refl
 
   pub memory_alone : HasOneFault grammar text → (outcome : Result ParsedInput InputFault) → IfErr outcome (IsInputFault grammar text) → InLanguage grammar text
-      → MatchResult outcome (λ _. ⊤) (λ fault. fault ≡ Memory)
+      → MatchResult outcome (λ _. ⊤) (λ fault. fault ≡ Memory ran_out)
   memory_alone one (Ok found) why of = tt
   memory_alone one (Err fault) why of = only_memory one fault why of
 

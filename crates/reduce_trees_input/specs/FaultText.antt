@@ -8,4 +8,4 @@ abbrev pub input_fault_text : InputFault → List ℕ
 input_fault_text (NotUtf8 offset) = codes "input is not UTF-8 at byte " ++ decimal offset
 input_fault_text (NoToken offset) = codes "no token at byte " ++ decimal offset
 input_fault_text NoParse = codes "input does not parse"
-input_fault_text Memory = codes "out of memory"
+input_fault_text (Memory _) = codes "out of memory"

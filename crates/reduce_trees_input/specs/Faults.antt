@@ -17,4 +17,4 @@ IsInputFault grammar bytes (NotUtf8 offset) = (¬ IsUtf8 bytes) × (offset ≡ u
 IsInputFault grammar bytes (NoToken offset) = IsUtf8 bytes × StopsAt grammar.grammar (chars bytes) offset
 IsInputFault grammar bytes NoParse =
     IsUtf8 bytes × ((tokens : List PlacedToken) × HasTokens grammar.grammar (chars bytes) tokens × (¬ StartDerives grammar (kinds_in tokens)))
-IsInputFault grammar bytes Memory = ⊤
+IsInputFault grammar bytes (Memory _) = ⊤

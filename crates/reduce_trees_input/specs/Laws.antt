@@ -1,5 +1,6 @@
 -- What follows from what an input and a fault of bytes are.
 use Rattle.std.specs.Prelude.{◌≡◌, ◌≢◌, ℕ, List}
+use Rattle.faults.specs.Memory.{ran_out}
 use Rattle.grammar_tree.specs.Written.{CheckedGrammar}
 use Rattle.reduce_trees_mode.specs.Candidates.{InLanguage}
 use Rattle.reduce_trees_mode.specs.Input.{TreeInput}
@@ -20,8 +21,9 @@ InputsAreInLanguage = (grammar : CheckedGrammar) (text : List ℕ) (input : Tree
 
 -- Bytes have one fault at most, other than out of memory; and with one they aren't in the language.
 pub record HasOneFault (grammar : CheckedGrammar) (bytes : List ℕ) : Type 0 where
-  pub once : (one other : InputFault) → one ≢ Memory → other ≢ Memory → IsInputFault grammar bytes one → IsInputFault grammar bytes other → one ≡ other
-  pub refused : (fault : InputFault) → fault ≢ Memory → IsInputFault grammar bytes fault → ¬ InLanguage grammar bytes
+  pub once : (one other : InputFault) → one ≢ Memory ran_out → other ≢ Memory ran_out → IsInputFault grammar bytes one → IsInputFault grammar bytes other
+      → one ≡ other
+  pub refused : (fault : InputFault) → fault ≢ Memory ran_out → IsInputFault grammar bytes fault → ¬ InLanguage grammar bytes
 
 abbrev pub InputFaultOnce : Type 0
 InputFaultOnce = (grammar : CheckedGrammar) (bytes : List ℕ) → HasOneFault grammar bytes

@@ -17,7 +17,7 @@ pub enum InputFault {
     NoParse,
 
     /// Memory ran out.
-    Memory,
+    Memory(Memory),
 }
 
 impl fmt::Display for InputFault {
@@ -31,7 +31,7 @@ impl fmt::Display for InputFault {
             InputFault::NotUtf8 { offset } => write!(f, "input is not UTF-8 at byte {offset}"),
             InputFault::NoToken { offset } => write!(f, "no token at byte {offset}"),
             InputFault::NoParse => f.write_str("input does not parse"),
-            InputFault::Memory => f.write_str("out of memory"),
+            InputFault::Memory(_) => f.write_str("out of memory"),
         }
     }
 }
@@ -42,20 +42,21 @@ impl From<Memory> for InputFault {
     ghost use Rattle.std.specs.Prelude.{◌≡◌};
     ghost use Rattle.reduce_trees_input.specs.declared.fault.InputFault.{InputFault};
 
-    ghost from_gives = { λ _ fault. fault ≡ InputFault.Memory };
+    ghost from_gives = { λ memory fault. fault ≡ InputFault.Memory memory };
 
-    fn from(_: Memory) -> InputFault {
-        InputFault::Memory
+    fn from(memory: Memory) -> InputFault {
+        InputFault::Memory(memory)
     }
 }
 
 impl From<AllocError> for InputFault {
     ghost use Rattle.std.specs.Prelude.{◌≡◌};
+    ghost use Rattle.faults.specs.Memory.{ran_out};
     ghost use Rattle.reduce_trees_input.specs.declared.fault.InputFault.{InputFault};
 
-    ghost from_gives = { λ _ fault. fault ≡ InputFault.Memory };
+    ghost from_gives = { λ _ fault. fault ≡ InputFault.Memory ran_out };
 
-    fn from(_: AllocError) -> InputFault {
-        InputFault::Memory
+    fn from(refused: AllocError) -> InputFault {
+        InputFault::Memory(Memory::from(refused))
     }
 }

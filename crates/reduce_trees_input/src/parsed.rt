@@ -1,7 +1,8 @@
 //! The input of a text, step by step.
 
-ghost use Rattle.std.specs.Prelude.{◌≡◌, ◌<◌, ◌^◌, ⊤, IfErr, IfOk, MatchResult, OnOk, length};
+ghost use Rattle.std.specs.Prelude.{◌≡◌, ◌≢◌, ◌<◌, ◌^◌, ⊤, Err, IfErr, IfOk, MatchResult, None, OnOk, Some, length};
 ghost use Rattle.std.specs.Str.{chars, IsUtf8};
+ghost use Rattle.faults.specs.Memory.{ran_out};
 ghost use Rattle.grammar_tree.specs.Written.{CheckedGrammar};
 ghost use Rattle.grammar_tree.specs.Checked.{StartDerives};
 ghost use Rattle.lexer.specs.Tokens.{HasTokens};
@@ -13,7 +14,7 @@ ghost use Rattle.reduce_trees_mode.specs.Candidates.{InLanguage};
 ghost use Rattle.reduce_trees_input.specs.Parsed.{IsParsed, MakesInputOf, kinds_in, tokens_in};
 ghost use Rattle.reduce_trees_input.specs.Faults.{IsInputFault};
 ghost use Rattle.reduce_trees_input.specs.inner.Faults.{IsParseFault};
-ghost use Rattle.reduce_trees_input.specs.declared.fault.InputFault.TheVariants.{Memory as OutOfMemory};
+ghost use Rattle.reduce_trees_input.specs.declared.fault.InputFault.TheVariants.{Memory as OutOfMemory, NoParse};
 
 use crate::fault::InputFault;
 use crate::laws::input_fault_once;
@@ -42,6 +43,7 @@ fn text_of_input(bytes: &[u8]) -> Result<&str, InputFault>
     ensures text { IfOk result (λ text. text.now ≡ bytes.entry.now) }
     ensures utf8 { OnOk result (IsUtf8 bytes.entry.now) }
     ensures fault { (grammar : CheckedGrammar) → IfErr result (IsInputFault grammar bytes.entry.now) }
+    ensures memory { result ≢ Err (OutOfMemory ran_out) }
 {
     match std::str::from_utf8(bytes) {
         Ok(text) => Ok(text),
@@ -63,7 +65,7 @@ fn tokens_of_input(lexer: &Lexer, text: &str) -> Result<Tokens, InputFault>
     match lexer.lex(text) {
         Ok(tokens) => Ok(tokens),
         Err(LexFault::NoToken { offset }) => Err(InputFault::NoToken { offset }),
-        Err(LexFault::Memory) => Err(InputFault::Memory),
+        Err(LexFault::Memory(memory)) => Err(InputFault::Memory(memory)),
     }
 }
 
@@ -76,6 +78,17 @@ fn kinds_of(alloc: Global, tokens: &Tokens) -> Result<Vec<u32>, Memory>
         kinds.push(token.kind)?;
     }
     Ok(kinds)
+}
+
+/// The tree that was found. Where there is none, that is the fault, and no other.
+fn tree_found(found: Option<Tree>) -> Result<Tree, InputFault>
+    ensures tree { IfOk result (λ tree. found ≡ Some tree) }
+    ensures none { IfErr result (λ fault. (fault ≡ NoParse) × (found ≡ None)) }
+{
+    match found {
+        Some(tree) => Ok(tree),
+        None => Err(InputFault::NoParse),
+    }
 }
 
 /// The preferred tree of the tokens, for the grammar's start rule.
@@ -92,13 +105,9 @@ fn tree_of_input(alloc: Global, grammar: &Checked, tokens: &Tokens) -> Result<Tr
     grammar.is_checked();
     let normal = normalise(alloc, grammar)?;
     let kinds = kinds_of(alloc, tokens)?;
-    match parse(alloc, &normal, Sym::Rule(normal.start()), &kinds)? {
-        Some(tree) => {
-            let _nodes = tree.nodes();
-            Ok(tree)
-        }
-        None => Err(InputFault::NoParse),
-    }
+    let tree = tree_found(parse(alloc, &normal, Sym::Rule(normal.start()), &kinds)?)?;
+    let _nodes = tree.nodes();
+    Ok(tree)
 }
 
 /// What is found in the bytes, step by step.
@@ -136,7 +145,7 @@ pub fn parsed_input(
     ensures parsed { IfOk result (IsParsed grammar.now bytes.now) }
     ensures input { IfOk result (MakesInputOf grammar.now bytes.now) }
     ensures language { OnOk result (InLanguage grammar.now bytes.now) }
-    ensures only { InLanguage grammar.now bytes.now → MatchResult result (λ _. ⊤) (λ fault. fault ≡ OutOfMemory) }
+    ensures only { InLanguage grammar.now bytes.now → MatchResult result (λ _. ⊤) (λ fault. fault ≡ OutOfMemory ran_out) }
     ensures fault { IfErr result (IsInputFault grammar.now bytes.now) }
 {
     input_fault_once();

@@ -6,6 +6,7 @@ use Rattle.std.proofs.lemmas.List.{length-append}
 use Rattle.std.specs.List.{IsDistinct}
 use Rattle.std.specs.Str.{bytes_eq}
 use Rattle.std.proofs.lemmas.List.Elements.{All-nil, All-weaker}
+use Rattle.faults.specs.Memory.{ran_out}
 use Rattle.script_gate_trait.specs.declared.gate.Verdict.{Verdict}
 use Rattle.script_gate_trait.specs.declared.gate.Verdict.TheVariants.{Yes, No}
 use Rattle.verdict_table.specs.declared.record.Record.{Record}
@@ -208,7 +209,7 @@ module _ (guard : Admits) where
           },
     )
     fails run_fault.Journal why = why
-    fails run_fault.Memory why = why
+    fails (run_fault.Memory _) why = why
 
     -- how the run of the start's lines ends
     pub lines_end : LinesEndMinimal → IsAdmitted start → (result : Result Reduced RunFault)
@@ -243,7 +244,7 @@ none_of workers K guard problem history none = subst (AreOf workers K guard prob
 })
 
 -- where memory ran out before anything was asked
-module _ (run : Run) (none : run.history ≡ []) (out : run.outcome ≡ Err run_fault.Memory) (same : run.after ≡ run.before) where
+module _ (run : Run) (none : run.history ≡ []) (out : run.outcome ≡ Err (run_fault.Memory ran_out)) (same : run.after ≡ run.before) where
   pub refused_sound : (may_say : List ℕ → Verdict → Type 0) → IsSound may_say run
   refused_sound may_say = record {
     answers = none_answers may_say run none (ap (λ (r : Reached). r.gates) same);
@@ -380,7 +381,7 @@ module _ (mode : TreeMode) (laws : IsTreeMode (round_trials mode) (IsEditBy mode
         },
   )
   tree_fails guard legal run_fault.Journal why = why
-  tree_fails guard legal run_fault.Memory why = why
+  tree_fails guard legal (run_fault.Memory _) why = why
 
   -- how the run of the tree ends
   tree_ends : (guard : Admits) → IsLegal (plan_first trees) run.history → input.admits ≡ guard → (result : Result Reduced RunFault)

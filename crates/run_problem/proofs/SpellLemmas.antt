@@ -245,7 +245,7 @@ module _ (mode : TreeMode) (laws : IsSpellMode (round_trials mode) (IsEditBy mod
           },
     )
     spelled_fails guard legal run_fault.Journal why = why
-    spelled_fails guard legal run_fault.Memory why = why
+    spelled_fails guard legal (run_fault.Memory _) why = why
 
     -- how the run ends
     spelled_ends : (guard : Admits) → IsLegal (plan_first both) run.history → input.admits ≡ guard → (result : Result Reduced RunFault)

@@ -71,7 +71,7 @@ RunFails guard problem run (Script worker) =
     GateFailed worker run.before.gates run.after.gates × IsQuiet run.before.journal run.after.journal
     × (run.workers ≡ 1 → IsUnfinished (verdict_in run.kept) guard problem run.history)
 RunFails guard problem run Journal = CallFailed run.before.journal run.after.journal × (run.workers ≡ 1 → AreQuiet run.before.gates run.after.gates)
-RunFails guard problem run Memory = IsQuiet run.before.journal run.after.journal × (run.workers ≡ 1 → AreQuiet run.before.gates run.after.gates)
+RunFails guard problem run (Memory _) = IsQuiet run.before.journal run.after.journal × (run.workers ≡ 1 → AreQuiet run.before.gates run.after.gates)
 
 -- how the run ended: with the text that the problem reduces to and what the report says, or why there is none
 abbrev pub ProblemEnds : Admits → Problem → Run → Result Reduced RunFault → Type 0

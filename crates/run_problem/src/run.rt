@@ -82,7 +82,7 @@ fn lines_result<
     histories_go_by_questions();
     match line_reducer(alloc, start, guard) {
         Ok(reducer) => run_to_text(rt, alloc, reducer, workers, journal, known),
-        Err(_) => Ran::refused(alloc, journal, RunFault::Memory),
+        Err(memory) => Ran::refused(alloc, journal, RunFault::Memory(memory)),
     }
 }
 
@@ -181,7 +181,7 @@ fn tree_result<
             perses_is_its_recursion();
             match perses_reducer(alloc, parts) {
                 Ok(reducer) => walk_result(rt, alloc, reducer, workers, journal, known),
-                Err(_) => Ran::refused(alloc, journal, RunFault::Memory),
+                Err(memory) => Ran::refused(alloc, journal, RunFault::Memory(memory)),
             }
         }
         TreeMode::Hdd => {
@@ -189,7 +189,7 @@ fn tree_result<
             hdd_is_its_recursion();
             match hdd_reducer(alloc, parts) {
                 Ok(reducer) => walk_result(rt, alloc, reducer, workers, journal, known),
-                Err(_) => Ran::refused(alloc, journal, RunFault::Memory),
+                Err(memory) => Ran::refused(alloc, journal, RunFault::Memory(memory)),
             }
         }
     }
@@ -275,7 +275,7 @@ fn spelled_result<
             perses_is_its_recursion();
             match perses_speller(alloc, parts, words) {
                 Ok(speller) => speller_result(rt, alloc, speller, workers, journal, known),
-                Err(_) => Ran::refused(alloc, journal, RunFault::Memory),
+                Err(memory) => Ran::refused(alloc, journal, RunFault::Memory(memory)),
             }
         }
         TreeMode::Hdd => {
@@ -284,7 +284,7 @@ fn spelled_result<
             hdd_is_its_recursion();
             match hdd_speller(alloc, parts, words) {
                 Ok(speller) => speller_result(rt, alloc, speller, workers, journal, known),
-                Err(_) => Ran::refused(alloc, journal, RunFault::Memory),
+                Err(memory) => Ran::refused(alloc, journal, RunFault::Memory(memory)),
             }
         }
     }
@@ -318,7 +318,7 @@ fn respelled_result<
     tokens_are_in_order();
     match Words::of(alloc, parts.start(), parts.tokens()) {
         Ok(words) => spelled_result(rt, alloc, mode, parts, &words, workers, journal, known),
-        Err(_) => Ran::refused(alloc, journal, RunFault::Memory),
+        Err(memory) => Ran::refused(alloc, journal, RunFault::Memory(memory)),
     }
 }
 
@@ -399,7 +399,7 @@ pub fn run_problem<
                 Ok(parts) => result_by_tree(
                     rt, alloc, mode, respell, &parts, workers, journal, known,
                 ),
-                Err(_) => Ran::refused(alloc, journal, RunFault::Memory),
+                Err(memory) => Ran::refused(alloc, journal, RunFault::Memory(memory)),
             }
         }
     }

@@ -90,7 +90,7 @@ fn text_marks(alloc: Global, lexer: &Lexer, text: &str, keeps: bool) -> Result<V
     match lexer.pieces(text) {
         Ok(pieces) => marks_of(alloc, lexer, &pieces.items),
         Err(LexFault::NoToken { .. }) => Ok(none),
-        Err(LexFault::Memory) => Err(Memory),
+        Err(LexFault::Memory(memory)) => Err(memory),
     }
 }
 

@@ -12,7 +12,7 @@ use Rattle.reduce_trees_mode.specs.Listed.{MayKeepStyle}
 use Rattle.reduce_walk.specs.inner.Codes.{tree_coded}
 use Rattle.reduce_trees.specs.declared.candidate.Candidate.{Candidate}
 use Rattle.reduce_trees.specs.declared.trial.Trial.{Trial}
-use Rattle.reduce_trees.specs.declared.trial.Trial.TheVariants.{Over, Squeezed, Edit}
+use Rattle.reduce_trees.specs.declared.trial.Trial.TheVariants.{Over, Squeezed, Edit, Refused}
 use Rattle.reduce_trees.specs.inner.Candidates.{IsCandidateIn}
 use Rattle.reduce_trees.specs.Fields.{IsTreeOf}
 use Rattle.reduce_trees.specs.inner.Fields.{Agrees, IsCandidateIf, IsTried}
@@ -38,6 +38,7 @@ tried_prop : (input : TreeInput) (style : Style) (left : PlainTree) (rest : Tria
 tried_prop input style left rest Over = hlevel props
 tried_prop input style left rest (Squeezed candidate) = hlevel (props, tree_set, candidate_prop)
 tried_prop input style left rest (Edit candidate) = hlevel (props, candidate_if_prop)
+tried_prop input style left rest (Refused memory) = hlevel props
 
 pub agrees_prop : (input : TreeInput) (style : Style) (tree : SyntaxTree) (left : PlainTree) (rest : Trials PlainTree) (trial : Trial)
     → IsProp (Agrees input style tree left rest trial)

@@ -8,5 +8,5 @@ use Rattle.reduce_trees_input.specs.declared.fault.InputFault.TheVariants.{NoPar
 -- why tokens of these kinds have no tree
 abbrev pub IsParseFault : CheckedGrammar → List ℕ → InputFault → Type 0
 IsParseFault grammar kinds NoParse = ¬ StartDerives grammar kinds
-IsParseFault grammar kinds Memory = ⊤
+IsParseFault grammar kinds (Memory _) = ⊤
 IsParseFault grammar kinds _ = ⊥

@@ -41,6 +41,7 @@ returns-clause-tried g c =
     let same : length c.text.result.now ≡ length c.args.parts.now.start.bytes = ap length c.text.ensures in
     let shorter : length c.in_ok-text.text.items < length c.args.parts.now.start.bytes = omega (arith, c.len.ensures, same, c.if-len-text.false) in (
       refl,
+      refl,
       squeezed_short input c.in_ok-text.text.items c.deref.result.now all c.in_ok-text.ensures asked shorter,
       subst (λ kept. IsCandidateIn input kept Style.Squeezed c.in_ok-candidate.candidate) all_again
           c.in_ok-candidate.ensures,

@@ -1,23 +1,20 @@
-use Rattle.std.proofs.Common.{◌≡◌, ◌∙◌, true, refl, sym, rules, subst}
-use Rattle.std.proofs.lemmas.Bool.{false≢true}
+use Rattle.std.proofs.Common.{subst}
 use Rattle.normal_form.specs.declared.normal.Sym.{Sym}
 use Rattle.normal_form.specs.Form.{NormalForm}
 use Rattle.syntax_tree.specs.Left.{IsRemainderOf}
 use Rattle.syntax_tree.specs.Trees.{PlainTree}
 use Rattle.syntax_tree.specs.Valid.{IsTreeFor}
-use Rattle.reduce_rounds.specs.Trials.{Trials, Done, Try, is_done}
 use Rattle.reduce_trees_mode.specs.Input.{TreeInput}
 use Rattle.reduce_trees_mode.specs.InputOf.{input_of}
+use Rattle.reduce_trees.proofs.RoundLemmas.{walk_over}
 use Rattle.reduce_trees.proofs.tree_round.TreeRound.kept.Goals as goal
-
-done_is : (rest : Trials PlainTree) → is_done rest ≡ true → rest ≡ Done
-done_is Done is = refl
-done_is (Try tree at_yes at_no) is = absurd (false≢true is)
 
 pub left_tokens-requires : goal.left_tokens-requires
 left_tokens-requires g c =
-    let over : c.is_over.result ≡ true = search rules in
-    done_is (g.W.TreeWalk.rest c.args.self.now.walk) (sym c.is_over.ensures ∙ over)
+    let parts = c.args.self.now.parts.now in
+    walk_over (input_of parts.start.grammar parts.formed parts.tree parts.start.bytes parts.tokens.items.items (g.F.Relation.admits parts.guard) parts.squeezes)
+    c.args.self.now.style (g.W.TreeWalk.left c.args.self.now.walk) (g.W.TreeWalk.rest c.args.self.now.walk) c.args.self.now.trial c.args.self.now.agrees.tried
+    c.requires c.in_ok-refusal.ensures
 
 pub returns-clause-kept : goal.returns-clause-kept
 returns-clause-kept g c =
