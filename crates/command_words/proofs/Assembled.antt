@@ -1,5 +1,5 @@
 -- A command line, put together from what its options give.
-use Rattle.std.proofs.Common.{◌≡◌, ◌∙◌, ℕ, ◌-◌, ◌<◌, ◌≤◌, Bool, true, false, ◌&&◌, List, [], ◌∷◌, ◌++◌, map, length, nat_le, Option, Some}
+use Rattle.std.proofs.Common.{◌≡◌, ◌∙◌, ℕ, ◌-◌, ◌<◌, ◌≤◌, Bool, true, false, ◌&&◌, ◌||◌, List, [], ◌∷◌, ◌++◌, map, length, nat_le, Option, Some}
 use Rattle.std.proofs.Common.{None, MatchOption, refl, sym, ap, ap₂, bytes_eq, codes, is_some, slice_get, option_and_then, option_map}
 use Rattle.std.proofs.Common.{unwrap_or, if◌then◌else◌, String, arith, drop, get_or, string_bytes, take}
 use Rattle.std.proofs.lemmas.List.{take_all}
@@ -11,7 +11,8 @@ use Rattle.command_words.specs.Options.{OptionRow, Use, Values, fits_table, is_n
 use Rattle.command_words.specs.Tables.{any_lines, check_table, normal_table, reduce_table, selftest_table, tree_modes}
 use Rattle.command_words.specs.Commands.{CheckOptions, Command, GrammarSource, ModeOptions, ProtectOptions, ReduceOptions, SelftestOptions}
 use Rattle.command_words.specs.Commands.{check_in, check_line, check_of, command_line_of, command_of, fitting_respell, is_given}
-use Rattle.command_words.specs.Commands.{mode_options, named_grammar, normal_line, number_of, reduce_line, reduce_of, reduction_in, selftest_line}
+use Rattle.command_words.specs.Commands.{is_command, mode_options, named_grammar, names_command, normal_line, number_of, reduce_line, reduce_of}
+use Rattle.command_words.specs.Commands.{reduction_in, selftest_line}
 use Rattle.command_words.specs.Commands.{selftest_of, text_of, tree_mode_named, tree_mode_of, value_of, value_or}
 use Rattle.command_words.specs.inner.Found.{HasFound, HasModeOptions, check_of_parts, check_with, fitting_jobs, fitting_keeps, fitting_mode, fitting_number}
 use Rattle.command_words.specs.inner.Found.{fitting_protects, line_if, line_of_parts, line_with, names_files, protects_of_parts, values_fit}
@@ -512,6 +513,35 @@ pub nothing_asked : (name : List ℕ) (words : List (List ℕ)) → IsOther name
 nothing_asked name words other no_check =
     sym (ap (λ (b : Bool). if b then option_map Command.check (check_line words) else None) no_check) ∙ other_than_these name words other
 
+-- ---- the name of a command
+
+pub reduce_named : (name : List ℕ) → bytes_eq name (codes "reduce") ≡ true → is_command name ≡ true
+reduce_named name is =
+    ap (λ (b : Bool). b || (bytes_eq name (codes "normal") || (bytes_eq name (codes "selftest") || bytes_eq name (codes "check")))) is
+
+beside_reduce : (name : List ℕ) → bytes_eq name (codes "reduce") ≡ false
+    → is_command name ≡ (bytes_eq name (codes "normal") || (bytes_eq name (codes "selftest") || bytes_eq name (codes "check")))
+beside_reduce name no_reduce =
+    ap (λ (b : Bool). b || (bytes_eq name (codes "normal") || (bytes_eq name (codes "selftest") || bytes_eq name (codes "check")))) no_reduce
+
+pub normal_named : (name : List ℕ) → bytes_eq name (codes "reduce") ≡ false → bytes_eq name (codes "normal") ≡ true → is_command name ≡ true
+normal_named name no_reduce is =
+    beside_reduce name no_reduce ∙ ap (λ (b : Bool). b || (bytes_eq name (codes "selftest") || bytes_eq name (codes "check"))) is
+
+beside_normal : (name : List ℕ) → bytes_eq name (codes "reduce") ≡ false → bytes_eq name (codes "normal") ≡ false
+    → is_command name ≡ (bytes_eq name (codes "selftest") || bytes_eq name (codes "check"))
+beside_normal name no_reduce no_normal =
+    beside_reduce name no_reduce ∙ ap (λ (b : Bool). b || (bytes_eq name (codes "selftest") || bytes_eq name (codes "check"))) no_normal
+
+pub selftest_named : (name : List ℕ) → bytes_eq name (codes "reduce") ≡ false → bytes_eq name (codes "normal") ≡ false
+    → bytes_eq name (codes "selftest") ≡ true → is_command name ≡ true
+selftest_named name no_reduce no_normal is =
+    beside_normal name no_reduce no_normal ∙ ap (λ (b : Bool). b || bytes_eq name (codes "check")) is
+
+pub check_named : (name : List ℕ) → IsOther name → bytes_eq name (codes "check") ≡ true → is_command name ≡ true
+check_named name other is =
+    beside_normal name other.0 other.1 ∙ ap (λ (b : Bool). b || bytes_eq name (codes "check")) other.2 ∙ is
+
 -- ---- the words
 
 pub too_few : {Z : Type 0} → (words : List (String Z)) → length words < 2 → None ≡ command_line_of (map string_bytes words)
@@ -532,3 +562,13 @@ pub after_program : {Z : Type 0} → (words : List (String Z)) (item : String Z)
 after_program words item name enough item_is name_is =
     ap (λ (n : List ℕ). command_of n (map string_bytes (take (length words - 2) (drop 2 words)))) (name_is ∙ ap string_bytes item_is)
     ∙ after_two words item enough
+
+two_named : {Z : Type 0} → (words : List (String Z)) (other : String Z) → 2 ≤ length words
+    → is_command (string_bytes (get_or words 1 other)) ≡ names_command (map string_bytes words)
+two_named [] other enough = absurd (omega arith)
+two_named (program ∷ []) other enough = absurd (omega arith)
+two_named (program ∷ (name ∷ words)) other enough = refl
+
+pub named_in : {Z : Type 0} → (words : List (String Z)) (item : String Z) (name : List ℕ) → 2 ≤ length words → item ≡ get_or words 1 item
+    → name ≡ string_bytes item → is_command name ≡ names_command (map string_bytes words)
+named_in words item name enough item_is name_is = ap is_command (name_is ∙ ap string_bytes item_is) ∙ two_named words item enough

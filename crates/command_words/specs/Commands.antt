@@ -1,5 +1,5 @@
 -- Which words are a command line, and what it asks for.
-use Rattle.std.specs.Prelude.{ℕ, ◌||◌, ◌&&◌, Bool, List, [], ◌∷◌, ◌++◌, Option, Some, None, if◌then◌else◌, codes}
+use Rattle.std.specs.Prelude.{ℕ, ◌||◌, ◌&&◌, Bool, false, List, [], ◌∷◌, ◌++◌, Option, Some, None, if◌then◌else◌, codes}
 use Rattle.std.specs.Prelude.{is_some, map, option_and_then, option_map, slice_get, unwrap_or}
 use Rattle.std.specs.Str.{bytes_eq}
 use Rattle.std.specs.Str.Parse.{digits_value}
@@ -189,6 +189,11 @@ selftest_line words = option_map selftest_of (options_in selftest_table words)
 abbrev pub check_line : List (List ℕ) → Option CheckOptions
 check_line words = option_and_then check_of (options_in check_table words)
 
+-- the name is that of a command
+abbrev pub is_command : List ℕ → Bool
+is_command name =
+    bytes_eq name (codes "reduce") || (bytes_eq name (codes "normal") || (bytes_eq name (codes "selftest") || bytes_eq name (codes "check")))
+
 -- the words after the name of a command
 abbrev pub command_of : List ℕ → List (List ℕ) → Option Command
 command_of name words =
@@ -202,3 +207,9 @@ abbrev pub command_line_of : List (List ℕ) → Option Command
 command_line_of [] = None
 command_line_of (program ∷ []) = None
 command_line_of (program ∷ (name ∷ words)) = command_of name words
+
+-- the second of the words is the name of a command
+abbrev pub names_command : List (List ℕ) → Bool
+names_command [] = false
+names_command (program ∷ []) = false
+names_command (program ∷ (name ∷ words)) = is_command name

@@ -130,7 +130,8 @@ pub(crate) fn read_options<'a>(
     match command.try_get_matches_from(words) {
         Ok(matches) => Ok(Some(matches)),
         Err(error) => match error.kind() {
-            ErrorKind::OutOfMemory => Err(Memory),
+            // The kind is all that `clap` says of memory that it didn't get.
+            ErrorKind::OutOfMemory => Err(Memory::from(AllocError)),
             _ => Ok(None),
         },
     }

@@ -1,7 +1,7 @@
 //! The words of a command line.
 
-ghost use Rattle.std.specs.Prelude.{◌≡◌, IfOk, IfSome, map, option_map, string_bytes};
-ghost use Rattle.command_words.specs.Commands.{command_line_of, command_of};
+ghost use Rattle.std.specs.Prelude.{◌≡◌, true, IfOk, IfSome, OnErr, map, option_map, string_bytes};
+ghost use Rattle.command_words.specs.Commands.{command_line_of, command_of, is_command, names_command};
 ghost use Rattle.command_words.specs.Lines.{IsSized, command_read};
 
 use crate::check::read_check;
@@ -13,10 +13,11 @@ use faults::Memory;
 use std::alloc::Global;
 
 /// What the words ask for, the first of which is the program's name. None where they are no command
-/// line. The error says that memory ran out, whether they are one or not.
+/// line. The error says that memory ran out: the words name a command then, but may be no command line.
 pub fn read_words<'a>(alloc: Global, words: &'a [String]) -> Result<Option<CommandLine<'a>>, Memory>
     ensures line { IfOk result (λ line. option_map command_read line ≡ command_line_of (map string_bytes words.entry.now)) }
     ensures size { IfOk result (λ line. IfSome line IsSized) }
+    ensures names { OnErr result (names_command (map string_bytes words.entry.now) ≡ true) }
 {
     let [_, command, words @ ..] = words else {
         return Ok(None);
@@ -32,6 +33,7 @@ fn read_command<'a>(
 ) -> Result<Option<CommandLine<'a>>, Memory>
     ensures line { IfOk result (λ line. option_map command_read line ≡ command_of name.now (map string_bytes words.entry.now)) }
     ensures size { IfOk result (λ line. IfSome line IsSized) }
+    ensures names { OnErr result (is_command name.now ≡ true) }
 {
     if name == "reduce" {
         match read_reduce(alloc, words)? {

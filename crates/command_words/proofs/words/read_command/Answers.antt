@@ -1,6 +1,8 @@
 use Rattle.std.proofs.Common.{Some, None, map, string_bytes, sym}
+use Rattle.std.proofs.lemmas.Result.{err_from_is_err_and}
 use Rattle.command_words.specs.Lines.{check_read, grammar_read, reduce_read, selftest_read}
-use Rattle.command_words.proofs.Assembled.{check_asked, normal_asked, nothing_asked, reduce_asked, selftest_asked}
+use Rattle.command_words.proofs.Assembled.{check_asked, check_named, normal_asked, normal_named, nothing_asked, reduce_asked, reduce_named, selftest_asked}
+use Rattle.command_words.proofs.Assembled.{selftest_named}
 use Rattle.command_words.proofs.words.read_command.Goals as goal
 
 pub returns-in-None-clause-line : goal.returns-in-None-clause-line
@@ -47,3 +49,22 @@ pub returns-else-eq-4-clause-line : goal.returns-else-eq-4-clause-line
 returns-else-eq-4-clause-line c =
     nothing_asked c.args.name.now (map string_bytes c.args.words.now) (sym c.if-eq.ensures, sym c.if-eq-2.ensures, sym c.if-eq-3.ensures)
     (sym c.if-eq-4.ensures)
+
+pub returns-in_err-read_reduce-clause-names : goal.returns-in_err-read_reduce-clause-names
+returns-in_err-read_reduce-clause-names c =
+    let p = err_from_is_err_and c.from_residual.result c.from_residual.ensures.1 in rw p.1 (reduce_named c.args.name.now (sym c.if-eq.ensures))
+
+pub returns-in_err-read_normal-clause-names : goal.returns-in_err-read_normal-clause-names
+returns-in_err-read_normal-clause-names c =
+    let p = err_from_is_err_and c.from_residual-in_err-read_normal.result c.from_residual-in_err-read_normal.ensures.1 in
+    rw p.1 (normal_named c.args.name.now (sym c.if-eq.ensures) (sym c.if-eq-2.ensures))
+
+pub returns-in_err-read_selftest-clause-names : goal.returns-in_err-read_selftest-clause-names
+returns-in_err-read_selftest-clause-names c =
+    let p = err_from_is_err_and c.from_residual-in_err-read_selftest.result c.from_residual-in_err-read_selftest.ensures.1 in
+    rw p.1 (selftest_named c.args.name.now (sym c.if-eq.ensures) (sym c.if-eq-2.ensures) (sym c.if-eq-3.ensures))
+
+pub returns-in_err-read_check-clause-names : goal.returns-in_err-read_check-clause-names
+returns-in_err-read_check-clause-names c =
+    let p = err_from_is_err_and c.from_residual-in_err-read_check.result c.from_residual-in_err-read_check.ensures.1 in
+    rw p.1 (check_named c.args.name.now (sym c.if-eq.ensures, sym c.if-eq-2.ensures, sym c.if-eq-3.ensures) (sym c.if-eq-4.ensures))
