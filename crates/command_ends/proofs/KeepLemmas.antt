@@ -8,6 +8,6 @@ use Rattle.command_ends.specs.Status.{IsKeepRefusal, KeepsFail}
 -- the refusal that names the first keep text that is missing
 pub keep_fails : (keeps : List (List ℕ)) (start : List ℕ) (index : ℕ) (refusal : Refusal) → first_missing keeps start ≡ Some index
     → IsKeepRefusal (index + 1) refusal → KeepsFail keeps start refusal
-keep_fails keeps start index Memory missing is = tt
+keep_fails keeps start index (Memory _) missing is = tt
 keep_fails keeps start index (KeepMissing line) missing is = (index, missing, is)
 keep_fails keeps start index _ missing is = absurd is

@@ -1,3 +1,4 @@
+mod CallLemmas
 mod FileLemmas
 mod KeepLemmas
 pub mod Lent

@@ -1,10 +1,12 @@
 -- The refusals of the program: the status and the line of each, and which of them a step may give. The texts are
 -- also written where the ends of each command are defined, so that those can be read by themselves.
-use Rattle.std.specs.Prelude.{◌≡◌, ◌⊎◌, ℕ, ◌+◌, ◌==◌, List, ◌++◌, IsTrue, Option, Some, codes, string_bytes}
+use Rattle.std.specs.Prelude.{◌≡◌, ◌⊎◌, ℕ, ◌+◌, ◌==◌, List, [], ◌∷◌, ◌++◌, IsTrue, Option, Some, Result, Ok, Err, codes, string_bytes}
 use Rattle.hex.specs.Hex.{encode_lower}
 use Rattle.std.specs.List.{list_any}
 use Rattle.std.specs.Fmt.{decimal}
 use Rattle.edge_io.specs.Files.{FileContent, IsLonger}
+use Rattle.edge_io.specs.FileCalls.{FileCall, failed_call, good_call}
+use Rattle.edge_io.specs.declared.file_call.FileAction.TheVariants as action
 use Rattle.keep_guard.specs.Keep.{first_missing}
 use Rattle.reduce_trees_input.specs.FaultText.{input_fault_text}
 use Rattle.reduce_trees_input.specs.declared.fault.InputFault.{InputFault}
@@ -60,7 +62,7 @@ IsOneOf statuses status = IsTrue (list_any (λ s. s == status) statuses)
 
 -- the status and the line of a refusal
 abbrev pub ending_of : Refusal → ℕ × List ℕ
-ending_of Memory = (1, line_of_text (codes "out of memory"))
+ending_of (Memory _) = (1, line_of_text (codes "out of memory"))
 ending_of Usage = (2, line_of_text (codes "bad command line"))
 ending_of (CannotRead file) = (3, line_of_text (codes "cannot read " ++ word_for file))
 ending_of CannotWrite = (4, line_of_text (codes "cannot write"))
@@ -88,7 +90,7 @@ abbrev pub ending_of_run : RunFault → ℕ × List ℕ
 ending_of_run run.NotInteresting = (8, line_of_text (codes "start is not interesting"))
 ending_of_run (run.Script worker) = (11, line_of_text (script_text worker))
 ending_of_run run.Journal = (12, line_of_text (codes "journal fault"))
-ending_of_run run.Memory = (1, line_of_text (codes "out of memory"))
+ending_of_run (run.Memory _) = (1, line_of_text (codes "out of memory"))
 
 -- the status is that of the refusal, and its line was put
 pub record EndsRefused (old new : SeenOut) (status : ℕ) (refusal : Refusal) : Type 0 where
@@ -101,16 +103,35 @@ EndsWithAnswer answer old new status = ((status ≡ 0) × Puts answer old new) �
 
 -- why a file wasn't read
 abbrev pub ReadFails : ℕ → NamedFile → Option FileContent → SeenFiles → SeenFiles → Refusal → Type 0
-ReadFails limit file content old new Memory = IsQuiet old new
+ReadFails limit file content old new (Memory _) = IsQuiet old new
 ReadFails limit file content old new (CannotRead named) = (named ≡ file) × CallFailed old new
 ReadFails limit file content old new (TooLong named) = (named ≡ file) × IsLonger limit content × IsQuiet old new
 ReadFails limit file content old new _ = ⊥
 
 -- why a file wasn't written
 abbrev pub WriteFails : SeenFiles → SeenFiles → Refusal → Type 0
-WriteFails old new Memory = FilesKept old new
+WriteFails old new (Memory _) = FilesKept old new
 WriteFails old new CannotWrite = CallFailed old new
 WriteFails old new _ = ⊥
+
+-- the calls that a read of the file of this path makes, by what came of it; where it was refused, by that
+abbrev pub unread_makes : List ℕ → Refusal → List FileCall
+unread_makes path (Memory _) = []
+unread_makes path (CannotRead file) = failed_call action.Read path ∷ []
+unread_makes path _ = good_call action.Read path ∷ []
+
+abbrev pub read_makes : {A : Type 0} → List ℕ → Result A Refusal → List FileCall
+read_makes path (Ok bytes) = good_call action.Read path ∷ []
+read_makes path (Err refusal) = unread_makes path refusal
+
+-- those of a write
+abbrev pub unwritten_makes : List ℕ → Refusal → List FileCall
+unwritten_makes path CannotWrite = failed_call action.Write path ∷ []
+unwritten_makes path _ = []
+
+abbrev pub write_makes : {A : Type 0} → List ℕ → Result A Refusal → List FileCall
+write_makes path (Ok done) = good_call action.Write path ∷ []
+write_makes path (Err refusal) = unwritten_makes path refusal
 
 -- a refusal that names a file names this one
 abbrev pub NamesNoOther : NamedFile → Refusal → Type 0
@@ -124,7 +145,7 @@ PutsRefusal file out out' status = (refusal : Refusal) × NamesNoOther file refu
 
 -- the refusal of a grammar whose fault has this text, or out of memory
 abbrev pub IsGrammarRefusal : List ℕ → Refusal → Type 0
-IsGrammarRefusal text Memory = Unit {0}
+IsGrammarRefusal text (Memory _) = Unit {0}
 IsGrammarRefusal text (Grammar line) = string_bytes line ≡ fault_line text
 IsGrammarRefusal text _ = ⊥
 
@@ -133,36 +154,36 @@ abbrev pub IsUncut : InputFault → Type 0
 IsUncut (input_fault.NotUtf8 offset) = Unit {0}
 IsUncut (input_fault.NoToken offset) = Unit {0}
 IsUncut input_fault.NoParse = ⊥
-IsUncut input_fault.Memory = ⊥
+IsUncut (input_fault.Memory _) = ⊥
 
 -- the refusal of an input that has this fault
 abbrev pub IsInputRefusal : InputFault → Refusal → Type 0
-IsInputRefusal fault Memory = Unit {0}
+IsInputRefusal fault (Memory _) = Unit {0}
 IsInputRefusal fault (Uncut line) = IsUncut fault × (string_bytes line ≡ line_of_text (input_fault_text fault))
 IsInputRefusal fault NoParse = fault ≡ input_fault.NoParse
 IsInputRefusal fault _ = ⊥
 
 -- the refusal of an input in which this keep text doesn't occur, or out of memory
 abbrev pub IsKeepRefusal : ℕ → Refusal → Type 0
-IsKeepRefusal number Memory = Unit {0}
+IsKeepRefusal number (Memory _) = Unit {0}
 IsKeepRefusal number (KeepMissing line) = string_bytes line ≡ line_of_text (keep_text number)
 IsKeepRefusal number _ = ⊥
 
 -- why a start isn't accepted: this keep text is the first that doesn't occur in it, or out of memory
 abbrev pub KeepsFail : List (List ℕ) → List ℕ → Refusal → Type 0
-KeepsFail keeps start Memory = Unit {0}
+KeepsFail keeps start (Memory _) = Unit {0}
 KeepsFail keeps start (KeepMissing line) = (index : ℕ) × (first_missing keeps start ≡ Some index) × IsKeepRefusal (index + 1) (KeepMissing line)
 KeepsFail keeps start _ = ⊥
 
 -- the refusal where an option names this line of an input that has only so many, or out of memory
 abbrev pub IsBeyondRefusal : ℕ → ℕ → Refusal → Type 0
-IsBeyondRefusal line lines Memory = Unit {0}
+IsBeyondRefusal line lines (Memory _) = Unit {0}
 IsBeyondRefusal line lines (BeyondLines text) = string_bytes text ≡ line_of_text (beyond_text line lines)
 IsBeyondRefusal line lines _ = ⊥
 
 -- the refusal of a journal of another start, or out of memory
 abbrev pub IsOtherStartRefusal : Digest → Digest → Refusal → Type 0
-IsOtherStartRefusal other start Memory = Unit {0}
+IsOtherStartRefusal other start (Memory _) = Unit {0}
 IsOtherStartRefusal other start (OtherStart line) = string_bytes line ≡ line_of_text (other_start_text other start)
 IsOtherStartRefusal other start _ = ⊥
 
@@ -170,10 +191,10 @@ IsOtherStartRefusal other start _ = ⊥
 abbrev pub HasJournalLine : JournalFault → List ℕ → Type 0
 HasJournalLine journal_fault.BadHead line = line ≡ line_of_text (codes "bad journal head")
 HasJournalLine (journal_fault.BadRecord offset) line = line ≡ line_of_text (bad_record_text offset)
-HasJournalLine journal_fault.Memory line = ⊥
+HasJournalLine (journal_fault.Memory _) line = ⊥
 
 -- the refusal of bytes that are no journal for this cause, or out of memory
 abbrev pub IsJournalRefusal : JournalFault → Refusal → Type 0
-IsJournalRefusal fault Memory = Unit {0}
+IsJournalRefusal fault (Memory _) = Unit {0}
 IsJournalRefusal fault (BadJournal line) = HasJournalLine fault (string_bytes line)
 IsJournalRefusal fault _ = ⊥

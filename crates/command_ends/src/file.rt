@@ -2,7 +2,8 @@
 
 ghost use Rattle.std.specs.Prelude.{◌≤◌, IfErr, IfOk, OnOk, length};
 ghost use Rattle.edge_io.specs.Files.{Holds, SameFiles, SameOthers};
-ghost use Rattle.command_ends.specs.Status.{ReadFails, WriteFails};
+ghost use Rattle.edge_io.specs.FileCalls.{WereMade};
+ghost use Rattle.command_ends.specs.Status.{ReadFails, WriteFails, read_makes, write_makes};
 ghost use Rattle.command_ends.specs.declared.status.NamedFile.TheVariants.{Input};
 ghost use Rattle.command_ends.specs.World.{input_limit, IsQuiet, seen};
 
@@ -31,13 +32,14 @@ pub fn read_file<F: Files>(
     ensures quiet { OnOk result (IsQuiet (seen F.content F.faults files.old) (seen F.content F.faults files.new)) }
     ensures refused { IfErr result (λ refusal. ReadFails limit file (F.content files.old name.now)
         (seen F.content F.faults files.old) (seen F.content F.faults files.new) refusal) }
+    ensures calls { WereMade (read_makes name.now result) (F.calls files.old) (F.calls files.new) }
     ensures same { SameFiles (F.content files.old) (F.content files.new) }
 {
     match files.read(name, limit) {
         Ok(bytes) => Ok(bytes),
         Err(FileFault::Failed) => Err(Refusal::CannotRead(file)),
         Err(FileFault::TooLong) => Err(Refusal::TooLong(file)),
-        Err(FileFault::Memory) => Err(Refusal::Memory),
+        Err(FileFault::Memory(memory)) => Err(Refusal::Memory(memory)),
     }
 }
 
@@ -48,6 +50,7 @@ pub fn read_input<F: Files>(files: &mut F, name: &str) -> Result<Vec<u8>, Refusa
     ensures quiet { OnOk result (IsQuiet (seen F.content F.faults files.old) (seen F.content F.faults files.new)) }
     ensures refused { IfErr result (λ refusal. ReadFails input_limit Input (F.content files.old name.now)
         (seen F.content F.faults files.old) (seen F.content F.faults files.new) refusal) }
+    ensures calls { WereMade (read_makes name.now result) (F.calls files.old) (F.calls files.new) }
     ensures same { SameFiles (F.content files.old) (F.content files.new) }
 {
     read_file(files, name, INPUT_LIMIT, NamedFile::Input)
@@ -59,10 +62,11 @@ pub fn write_file<F: Files>(files: &mut F, name: &str, bytes: &[u8]) -> Result<(
     ensures quiet { OnOk result (IsQuiet (seen F.content F.faults files.old) (seen F.content F.faults files.new)) }
     ensures others { SameOthers (F.content files.old) (F.content files.new) name.now }
     ensures refused { IfErr result (λ refusal. WriteFails (seen F.content F.faults files.old) (seen F.content F.faults files.new) refusal) }
+    ensures calls { WereMade (write_makes name.now result) (F.calls files.old) (F.calls files.new) }
 {
     match files.write(name, bytes) {
         Ok(()) => Ok(()),
         Err(WriteFault::Failed) => Err(Refusal::CannotWrite),
-        Err(WriteFault::Memory) => Err(Refusal::Memory),
+        Err(WriteFault::Memory(memory)) => Err(Refusal::Memory(memory)),
     }
 }

@@ -13,7 +13,7 @@ use grammar_load::GrammarFault;
 use reduce_journal::{Digest, JournalFault};
 use reduce_trees_input::InputFault;
 use run_gated::RunFault;
-use std::alloc::Global;
+use std::alloc::{AllocError, Global};
 
 /// A file that the program reads.
 #[derive(Clone, Copy, Debug, PartialEq, Eq)]
@@ -34,7 +34,7 @@ pub enum NamedFile {
 #[derive(Drop)]
 pub enum Refusal {
     /// Memory ran out.
-    Memory,
+    Memory(Memory),
     /// The words are no command line.
     Usage,
     /// This file can't be read.
@@ -104,7 +104,7 @@ impl Refusal {
     {
         match format!(in alloc; "perses: grammar: {fault}\n") {
             Ok(line) => Refusal::Grammar(line),
-            Err(_) => Refusal::Memory,
+            Err(refused) => Refusal::from(refused),
         }
     }
 
@@ -116,11 +116,11 @@ impl Refusal {
             InputFault::NotUtf8 { .. } | InputFault::NoToken { .. } => {
                 match format!(in alloc; "perses: {fault}\n") {
                     Ok(line) => Refusal::Uncut(line),
-                    Err(_) => Refusal::Memory,
+                    Err(refused) => Refusal::from(refused),
                 }
             }
             InputFault::NoParse => Refusal::NoParse,
-            InputFault::Memory => Refusal::Memory,
+            InputFault::Memory(memory) => Refusal::Memory(*memory),
         }
     }
 
@@ -131,7 +131,7 @@ impl Refusal {
     {
         match format!(in alloc; "perses: keep text {number} is missing\n") {
             Ok(line) => Refusal::KeepMissing(line),
-            Err(_) => Refusal::Memory,
+            Err(refused) => Refusal::from(refused),
         }
     }
 
@@ -144,11 +144,11 @@ impl Refusal {
             JournalFault::BadRecord { offset } => {
                 format!(in alloc; "perses: bad journal at byte {offset}\n")
             }
-            JournalFault::Memory => return Refusal::Memory,
+            JournalFault::Memory(memory) => return Refusal::Memory(memory),
         };
         match line {
             Ok(line) => Refusal::BadJournal(line),
-            Err(_) => Refusal::Memory,
+            Err(refused) => Refusal::from(refused),
         }
     }
 
@@ -158,7 +158,7 @@ impl Refusal {
     {
         match other_start_line(alloc, other, start) {
             Ok(line) => Refusal::OtherStart(line),
-            Err(_) => Refusal::Memory,
+            Err(memory) => Refusal::Memory(memory),
         }
     }
 
@@ -169,7 +169,7 @@ impl Refusal {
     {
         match format!(in alloc; "perses: line {line} is beyond line {lines}\n") {
             Ok(line) => Refusal::BeyondLines(line),
-            Err(_) => Refusal::Memory,
+            Err(refused) => Refusal::from(refused),
         }
     }
 
@@ -179,7 +179,7 @@ impl Refusal {
         ensures line { result.1.now ≡ line_of self.now }
     {
         match self {
-            Refusal::Memory => (1, "perses: out of memory\n"),
+            Refusal::Memory(_) => (1, "perses: out of memory\n"),
             Refusal::Usage => (2, "perses: bad command line\n"),
             Refusal::CannotRead(NamedFile::Input) => (3, "perses: cannot read input\n"),
             Refusal::CannotRead(NamedFile::Grammar) => (3, "perses: cannot read grammar\n"),
@@ -210,10 +210,21 @@ impl Refusal {
 impl From<Memory> for Refusal {
     ghost use Rattle.command_ends.specs.declared.status.Refusal.TheVariants.{Memory as OutOfMemory};
 
-    ghost from_gives = { λ _ refusal. refusal ≡ OutOfMemory };
+    ghost from_gives = { λ memory refusal. refusal ≡ OutOfMemory memory };
 
-    fn from(_: Memory) -> Refusal {
-        Refusal::Memory
+    fn from(memory: Memory) -> Refusal {
+        Refusal::Memory(memory)
+    }
+}
+
+impl From<AllocError> for Refusal {
+    ghost use Rattle.faults.specs.Memory.{ran_out};
+    ghost use Rattle.command_ends.specs.declared.status.Refusal.TheVariants.{Memory as OutOfMemory};
+
+    ghost from_gives = { λ _ refusal. refusal ≡ OutOfMemory ran_out };
+
+    fn from(refused: AllocError) -> Refusal {
+        Refusal::Memory(Memory::from(refused))
     }
 }
 
@@ -228,7 +239,7 @@ impl From<RunFault> for Refusal {
             RunFault::NotInteresting => Refusal::NotInteresting,
             RunFault::Script { worker } => Refusal::Script(script_line(worker)),
             RunFault::Journal => Refusal::Journal,
-            RunFault::Memory => Refusal::Memory,
+            RunFault::Memory(memory) => Refusal::Memory(memory),
         }
     }
 }
