@@ -59,7 +59,7 @@ are_spelled named (GrammarTexts.pair lexer parser) small is = record {
 pub has_fault : (named : GrammarSource) (name : Option (List ℕ)) (texts : GrammarTexts) (text : List ℕ) → name ≡ start_name named → AreSmall texts
     → HaveFault texts name text
     → ((it : CheckedGrammar) → ¬ AreSpelled texts name it) → (refusal : Refusal) → IsGrammarRefusal text refusal → IsFaultRefusal named texts refusal
-has_fault named name texts text same small first none Memory line = tt
+has_fault named name texts text same small first none (Memory _) line = tt
 has_fault named name texts text same small first none (Grammar line) is = (
   text,
   record {
@@ -75,7 +75,7 @@ module _ (named : GrammarSource) (lexer parser : List ℕ) (files files' : SeenF
   -- the file of a lexer that wasn't read gives no grammar
   pub lexer_unread : (refusal : Refusal) → ReadFails grammar_limit read_file.Lexer (files.shown lexer) files files' refusal
       → LexerFails named lexer parser files files' refusal
-  lexer_unread Memory why = why
+  lexer_unread (Memory _) why = why
   lexer_unread (CannotRead file) why = why
   lexer_unread (TooLong file) why = why
   lexer_unread _ why = absurd why
@@ -84,7 +84,7 @@ module _ (named : GrammarSource) (lexer parser : List ℕ) (files files' : SeenF
   lexer_fault : (text : List ℕ) → Holds text (files.shown lexer) → length text ≤ grammar_limit → IsQuiet files files' → (refusal : Refusal)
       → IsFaultRefusal named (GrammarTexts.pair text parser) refusal
       → LexerFails named lexer parser files files' refusal
-  lexer_fault text here within quiet Memory why = quiet
+  lexer_fault text here within quiet (Memory _) why = quiet
   lexer_fault text here within quiet (Grammar line) why = (why.0, record { bytes = text; read = here; within = within; holds = why.1 }, why.2, quiet)
   lexer_fault text here within quiet _ why = absurd why
 
@@ -118,7 +118,7 @@ module _ (named : GrammarSource) (files : SeenFiles) where
   -- where the first couldn't be read there is none
   pub fails_read : (files' : SeenFiles) (refusal : Refusal) → ReadFails grammar_limit read_file.Grammar (files.shown named.path) files files' refusal
       → GrammarFails named files files' refusal
-  fails_read files' Memory why = why
+  fails_read files' (Memory _) why = why
   fails_read files' (CannotRead file) why = subst (λ f. GrammarFails named files files' (CannotRead f)) (sym why.0) (tt, why.1)
   fails_read files' (TooLong file) why = subst (λ f. GrammarFails named files files' (TooLong f)) (sym why.0) (tt, why.1, why.2)
   fails_read files' _ why = absurd why
@@ -128,7 +128,7 @@ module _ (named : GrammarSource) (files : SeenFiles) where
     fails_fault : (files' : SeenFiles) (text : List ℕ) → Holds text (files.shown named.path) → length text ≤ grammar_limit → IsQuiet files files'
         → (refusal : Refusal)
         → IsFaultRefusal named (GrammarTexts.one text) refusal → GrammarFails named files files' refusal
-    fails_fault files' text here within quiet Memory why = quiet
+    fails_fault files' text here within quiet (Memory _) why = quiet
     fails_fault files' text here within quiet (Grammar line) why =
         (why.0, one_read (λ texts. IsFaultIn named texts why.0) is (record { bytes = text; read = here; within = within; holds = why.1 }), why.2, quiet)
     fails_fault files' text here within quiet _ why = absurd why
@@ -171,7 +171,7 @@ module _ (named : GrammarSource) (files : SeenFiles) where
     reached P p = subst P (sym is) p
 
     fails_lexer : (files' : SeenFiles) (refusal : Refusal) → LexerFails named lexer text between files' refusal → GrammarFails named files files' refusal
-    fails_lexer files' Memory why = why ∙ quiet
+    fails_lexer files' (Memory _) why = why ∙ quiet
     fails_lexer files' (CannotRead file) why = subst (λ f. GrammarFails named files files' (CannotRead f)) (sym why.0) (
       (reached (λ (l : Option (List ℕ)). IsSome l) refl, record { bytes = held; read = here; within = within; holds = tt }),
       subst (λ count. Rose count files'.faults) quiet why.1,

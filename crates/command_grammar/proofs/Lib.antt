@@ -1,3 +1,4 @@
+mod CallLemmas
 mod GrammarLemmas
 mod TextLemmas
 pub mod Lent

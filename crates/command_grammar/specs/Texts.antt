@@ -1,5 +1,7 @@
 -- The texts of a grammar that a command line names, one or two, what they spell, and the files that have them.
-use Rattle.std.specs.Prelude.{◌≢◌, ◌≡◌, ℕ, List, [], Option, Some, None, IsSome, unwrap_or}
+use Rattle.std.specs.Prelude.{◌≢◌, ◌≡◌, ℕ, List, [], ◌∷◌, Option, Some, None, IsSome, unwrap_or}
+use Rattle.std.specs.Option.{option_to_list}
+use Rattle.faults.specs.Memory.{ran_out}
 use Rattle.edge_io.specs.Files.{FileContent}
 use Rattle.grammar_tree.specs.Written.{CheckedGrammar, WrittenGrammar}
 use Rattle.grammar_load.specs.Answer.{IsGrammarFault, Spells}
@@ -35,9 +37,9 @@ AreSpelled (GrammarTexts.pair lexer parser) wanted it = SpellsPair lexer parser 
 -- The text is that of their first fault, which isn't out of memory.
 abbrev pub HaveFault : GrammarTexts → Option (List ℕ) → List ℕ → Type 0
 HaveFault (GrammarTexts.one bytes) wanted text =
-    (fault : GrammarFault) × (fault ≢ grammar_fault.Memory) × IsGrammarFault bytes wanted fault × (text ≡ grammar_fault_text fault)
+    (fault : GrammarFault) × (fault ≢ grammar_fault.Memory ran_out) × IsGrammarFault bytes wanted fault × (text ≡ grammar_fault_text fault)
 HaveFault (GrammarTexts.pair lexer parser) wanted text =
-    (fault : PairGrammarFault) × (fault ≢ pair_fault.Memory) × IsPairGrammarFault lexer parser wanted fault × (text ≡ pair_grammar_fault_text fault)
+    (fault : PairGrammarFault) × (fault ≢ pair_fault.Memory ran_out) × IsPairGrammarFault lexer parser wanted fault × (text ≡ pair_grammar_fault_text fault)
 
 -- the files of these names were read whole, each within its limit, and the fact holds of their texts
 abbrev pub TextsRead : List ℕ → Option (List ℕ) → (List ℕ → Option FileContent) → (GrammarTexts → Type 0) → Type 0
@@ -73,6 +75,17 @@ IsGrammarFile named read.Grammar files = Unit {0}
 IsGrammarFile named read.Lexer files = IsSome named.lexer × WasRead grammar_limit (files.shown named.path) (λ text. Unit {0})
 IsGrammarFile named read.Result files = ⊥
 IsGrammarFile named read.Journal files = ⊥
+
+-- the paths of its files, in the order in which they are read, and those of the files that are read before this one
+abbrev pub grammar_paths : GrammarSource → List (List ℕ)
+grammar_paths named = named.path ∷ option_to_list named.lexer
+
+abbrev pub paths_before : GrammarSource → NamedFile → List (List ℕ)
+paths_before named read.Input = []
+paths_before named read.Grammar = []
+paths_before named read.Lexer = named.path ∷ []
+paths_before named read.Result = []
+paths_before named read.Journal = []
 
 -- the path of such a file; of a lexer that isn't named none is asked for
 abbrev pub path_of : GrammarSource → NamedFile → List ℕ

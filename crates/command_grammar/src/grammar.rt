@@ -1,19 +1,20 @@
 //! Reading the grammar that a command line names.
 
-ghost use Rattle.std.specs.Prelude.{◌≡◌, ◌≤◌, IfErr, IfOk, OnOk, length, option_map};
+ghost use Rattle.std.specs.Prelude.{◌≡◌, ◌≤◌, [], ◌∷◌, IfErr, IfOk, OnOk, length, option_map};
 ghost use Rattle.std.specs.Str.{chars};
 ghost use Rattle.edge_io.specs.Files.{SameFiles};
 ghost use Rattle.grammar_load_pair.specs.Message.{pair_grammar_fault_text};
 ghost use Rattle.command_words.specs.Lines.{grammar_read};
-ghost use Rattle.command_grammar.specs.Grammar.{GrammarFails, GrammarRead, SpellsTheGrammar, start_name};
-ghost use Rattle.command_grammar.specs.Texts.{GrammarTexts};
-ghost use Rattle.command_grammar.specs.inner.Grammar.{IsFaultRefusal, LexerFails};
+ghost use Rattle.command_grammar.specs.Grammar.{GrammarCalls, GrammarFails, GrammarRead, SpellsTheGrammar, start_name};
+ghost use Rattle.command_grammar.specs.Texts.{GrammarTexts, grammar_paths};
+ghost use Rattle.command_grammar.specs.inner.Grammar.{IsFaultRefusal, LexerCalls, LexerFails};
 ghost use Rattle.command_ends.specs.Status.{IsGrammarRefusal};
-ghost use Rattle.command_ends.specs.World.{IsQuiet, WasRead, grammar_limit, seen};
+ghost use Rattle.command_ends.specs.World.{IsQuiet, WasRead, WereRead, grammar_limit, seen};
 
 use command_ends::{GRAMMAR_LIMIT, NamedFile, Refusal, read_file};
 use command_words::NamedGrammar;
 use edge_io::Files;
+use faults::Memory;
 use grammar_load::{GrammarFault, checked_grammar};
 use grammar_load_pair::{PairGrammarFault, checked_pair};
 use grammar_tree::Checked;
@@ -38,7 +39,7 @@ fn grammar_of_text(
 {
     match checked_grammar(alloc, text, named_start(grammar)) {
         Ok(checked) => Ok(checked),
-        Err(GrammarFault::Memory) => Err(Refusal::Memory),
+        Err(GrammarFault::Memory(memory)) => Err(Refusal::Memory(memory)),
         Err(fault) => Err(Refusal::of_grammar(alloc, &fault)),
     }
 }
@@ -50,7 +51,7 @@ fn pair_refusal(alloc: Global, fault: &PairGrammarFault) -> Refusal
 {
     match format!(in alloc; "perses: grammar: {fault}\n") {
         Ok(line) => Refusal::Grammar(line),
-        Err(_) => Refusal::Memory,
+        Err(refused) => Refusal::Memory(Memory::from(refused)),
     }
 }
 
@@ -69,7 +70,7 @@ fn grammar_of_pair(
 {
     match checked_pair(alloc, lexer, parser, named_start(grammar)) {
         Ok(checked) => Ok(checked),
-        Err(PairGrammarFault::Memory) => Err(Refusal::Memory),
+        Err(PairGrammarFault::Memory(memory)) => Err(Refusal::Memory(memory)),
         Err(fault) => Err(pair_refusal(alloc, &fault)),
     }
 }
@@ -89,6 +90,8 @@ fn grammar_with_lexer<F: Files>(
     ensures quiet { OnOk result (IsQuiet (seen F.content F.faults files.old) (seen F.content F.faults files.new)) }
     ensures refused { IfErr result (λ refusal. LexerFails (grammar_read grammar.entry) lexer.now parser.now (seen F.content F.faults files.old)
         (seen F.content F.faults files.new) refusal) }
+    ensures read { OnOk result (WereRead (lexer.now ∷ []) (F.calls files.old) (F.calls files.new)) }
+    ensures calls { IfErr result (LexerCalls lexer.now (F.calls files.old) (F.calls files.new)) }
     ensures same { SameFiles (F.content files.old) (F.content files.new) }
 {
     let text = read_file(files, lexer, GRAMMAR_LIMIT, NamedFile::Lexer)?;
@@ -106,6 +109,8 @@ pub fn grammar_of_files<F: Files>(
     ensures quiet { OnOk result (IsQuiet (seen F.content F.faults files.old) (seen F.content F.faults files.new)) }
     ensures refused { IfErr result (λ refusal. GrammarFails (grammar_read grammar.entry) (seen F.content F.faults files.old)
         (seen F.content F.faults files.new) refusal) }
+    ensures read { OnOk result (WereRead (grammar_paths (grammar_read grammar.entry)) (F.calls files.old) (F.calls files.new)) }
+    ensures calls { IfErr result (GrammarCalls (grammar_read grammar.entry) (F.calls files.old) (F.calls files.new)) }
     ensures same { SameFiles (F.content files.old) (F.content files.new) }
 {
     let text = read_file(files, grammar.path, GRAMMAR_LIMIT, NamedFile::Grammar)?;

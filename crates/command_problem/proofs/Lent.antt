@@ -1,4 +1,5 @@
 -- What other crates' proofs cite of this crate's.
+pub use Rattle.command_problem.proofs.CallLemmas.{lines_calls, problem_calls, tree_reads}
 pub use Rattle.command_problem.proofs.ReadLemmas.{tree_fails, tree_read}
 pub use Rattle.command_problem.proofs.ShownLemmas.{any_problem, fault_is, fault_not_shown, faulty_not_shown, grammar_not_faulty, grammar_not_missing}
 pub use Rattle.command_problem.proofs.ShownLemmas.{grammar_not_over, input_read, long_grammar_hidden, long_grammar_not_shown, long_grammar_there}

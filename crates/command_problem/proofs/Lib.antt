@@ -1,3 +1,4 @@
+mod CallLemmas
 mod ShownLemmas
 mod ReadLemmas
 pub mod Lent

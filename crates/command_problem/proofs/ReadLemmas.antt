@@ -31,7 +31,7 @@ within_more within = omega (arith, within)
 -- why there is no grammar is why there is no tree
 pub grammar_fails : (grammar : GrammarSource) (input : List ℕ) (files files' : SeenFiles) (refusal : Refusal) → GrammarFails grammar files files' refusal
     → TreeFails grammar input files files' refusal
-grammar_fails grammar input files files' Memory why = why
+grammar_fails grammar input files files' (Memory _) why = why
 grammar_fails grammar input files files' (CannotRead named.Input) why = absurd why.0
 grammar_fails grammar input files files' (CannotRead named.Grammar) why = why
 grammar_fails grammar input files files' (CannotRead named.Lexer) why = why
@@ -68,7 +68,7 @@ module _ (grammar : GrammarSource) (input : List ℕ) (files files' : SeenFiles)
   pub fault_fails : (bytes : List ℕ) → Holds bytes (files.shown input) → length bytes ≤ input_limit → IsQuiet files files' → (fault : InputFault)
       → IsInputFault c bytes fault → (refusal : Refusal)
       → IsInputRefusal fault refusal → TreeFails grammar input files files' refusal
-  fault_fails bytes here within quiet fault is Memory why = quiet
+  fault_fails bytes here within quiet fault is (Memory _) why = quiet
   fault_fails bytes here within quiet fault is (Uncut line) why =
       (fault, why.0, (c, spelled, record { bytes = bytes; read = here; within = within; holds = is }), why.1, quiet)
   fault_fails bytes here within quiet fault is NoParse why =
@@ -141,7 +141,7 @@ module _ (options : ProblemOptions) (files : SeenFiles) (trees : GrammarOptions)
   -- why there is no tree
   pub tree_fails : (files' : SeenFiles) (refusal : Refusal) → TreeFails trees.grammar options.input files files' refusal
       → ProblemFails options files files' refusal
-  tree_fails files' Memory why = why
+  tree_fails files' (Memory _) why = why
   tree_fails files' (CannotRead named.Input) why = (subst (λ (m : ModeOptions). IsReached m named.Input files) (sym mode) why.0, why.1)
   tree_fails files' (CannotRead named.Grammar) why = (subst (λ (m : ModeOptions). IsReached m named.Grammar files) (sym mode) why.0, why.1)
   tree_fails files' (CannotRead named.Lexer) why = (subst (λ (m : ModeOptions). IsReached m named.Lexer files) (sym mode) why.0, why.1)

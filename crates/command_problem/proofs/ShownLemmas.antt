@@ -1,6 +1,7 @@
 -- What the files had to be reduced isn't at odds with what is visible of them.
 use Rattle.std.proofs.Common.{◌≡◌, ◌≢◌, List, ℕ, Option, Some, None, sym, ◌∙◌, subst}
 use Rattle.std.proofs.lemmas.Option.{same_Some}
+use Rattle.faults.specs.Memory.{ran_out}
 use Rattle.edge_io.specs.Files.{FileContent, Holds, IsLonger}
 use Rattle.grammar_tree.specs.Written.{CheckedGrammar}
 use Rattle.reduce_trees_mode.specs.Candidates.{InLanguage}
@@ -32,10 +33,10 @@ shown_holds limit P (Some None) shown bytes here = absurd shown
 shown_holds limit P (Some (Some held)) shown bytes here = subst P (same_Some held bytes here) shown.1
 
 -- faults that bytes have aren't out of memory
-pub uncut_caused : (fault : InputFault) → IsUncut fault → fault ≢ input_fault.Memory
+pub uncut_caused : (fault : InputFault) → IsUncut fault → fault ≢ input_fault.Memory ran_out
 uncut_caused fault uncut is = subst IsUncut is uncut
 
-pub parse_caused : (fault : InputFault) → fault ≡ input_fault.NoParse → fault ≢ input_fault.Memory
+pub parse_caused : (fault : InputFault) → fault ≡ input_fault.NoParse → fault ≢ input_fault.Memory ran_out
 parse_caused fault no_parse is = cc (sym no_parse ∙ is)
 
 module _ (options : ProblemOptions) (files : SeenFiles) where
@@ -110,7 +111,7 @@ module _ (options : ProblemOptions) (files : SeenFiles) where
     grammar_not_faulty shown = not_faulty trees.grammar files grammar_read.0 grammar_read.1 shown
 
     -- and the input has no fault
-    pub no_fault : InputFaultOnce → InputsAreInLanguage → (Q : InputFault → Type 0) → ((fault : InputFault) → Q fault → fault ≢ input_fault.Memory)
+    pub no_fault : InputFaultOnce → InputsAreInLanguage → (Q : InputFault → Type 0) → ((fault : InputFault) → Q fault → fault ≢ input_fault.Memory ran_out)
         → IsShownFault trees.grammar options files Q → ⊥
     no_fault faults languages Q caused shown =
         let content = files.shown options.input in
@@ -125,7 +126,7 @@ module _ (options : ProblemOptions) (files : SeenFiles) where
         (faults c input.bytes).refused it.0 (caused it.0 it.2) it.1 (languages c input.bytes input.holds.0 input.holds.1.of_text)
 
   -- an input with a fault
-  module _ (faults : InputFaultOnce) (trees : GrammarOptions) (fault : InputFault) (caused : fault ≢ input_fault.Memory)
+  module _ (faults : InputFaultOnce) (trees : GrammarOptions) (fault : InputFault) (caused : fault ≢ input_fault.Memory ran_out)
       (read : InputHas trees.grammar (λ c bytes. IsInputFault c bytes fault) options files) where
     content : Option FileContent
     content = files.shown options.input
@@ -145,7 +146,8 @@ module _ (options : ProblemOptions) (files : SeenFiles) where
     fault_not_shown S is shown = fault_in options.mode S is shown
 
     -- and has no other
-    pub fault_is : (Q : InputFault → Type 0) → ((fault : InputFault) → Q fault → fault ≢ input_fault.Memory) → IsShownFault trees.grammar options files Q
+    pub fault_is : (Q : InputFault → Type 0) → ((fault : InputFault) → Q fault → fault ≢ input_fault.Memory ran_out)
+        → IsShownFault trees.grammar options files Q
         → Q fault
     unfolding content
     fault_is Q not_memory shown =

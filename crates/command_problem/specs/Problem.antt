@@ -1,5 +1,5 @@
 -- What a command line names to be reduced: that it was read, and that it is visible.
-use Rattle.std.specs.Prelude.{◌≡◌, ℕ, Bool, List, []}
+use Rattle.std.specs.Prelude.{◌≡◌, ℕ, Bool, List, [], ◌∷◌, ◌++◌}
 use Rattle.grammar_tree.specs.Written.{CheckedGrammar}
 use Rattle.reduce_core.specs.Reduction.{Admits}
 use Rattle.reduce_trees_mode.specs.Candidates.{InLanguage}
@@ -13,7 +13,7 @@ use Rattle.command_ends.specs.declared.status.NamedFile.TheVariants as named
 use Rattle.command_ends.specs.World.{IsShownWithin, SeenFiles, WasRead, grammar_limit, input_limit, journal_limit, result_limit}
 use Rattle.command_words.specs.Commands.{GrammarSource, ModeOptions}
 use Rattle.command_grammar.specs.Grammar.{GrammarRead, IsGrammarText, start_name}
-use Rattle.command_grammar.specs.Texts.{AreSpelled, GrammarIsShown, IsGrammarFile, path_of}
+use Rattle.command_grammar.specs.Texts.{AreSpelled, GrammarIsShown, IsGrammarFile, grammar_paths, path_of, paths_before as grammar_before}
 
 -- what a command line says of a problem: which states are tried, whether what is left of a tree is respelled, the path of the input, and what is admitted
 -- of its tree
@@ -78,6 +78,26 @@ path_in options named.Grammar = grammar_in options.mode named.Grammar
 path_in options named.Lexer = grammar_in options.mode named.Lexer
 path_in options named.Result = []
 path_in options named.Journal = []
+
+-- the paths of the grammar's files, where the mode has one; and of all files, in the order in which they are read
+abbrev pub grammar_paths_in : ModeOptions → List (List ℕ)
+grammar_paths_in ModeOptions.lines = []
+grammar_paths_in (ModeOptions.by_grammar trees) = grammar_paths trees.grammar
+
+abbrev pub problem_paths : ProblemOptions → List (List ℕ)
+problem_paths options = grammar_paths_in options.mode ++ options.input ∷ []
+
+-- those of the files that are read before this one
+abbrev pub grammar_before_in : ModeOptions → NamedFile → List (List ℕ)
+grammar_before_in ModeOptions.lines file = []
+grammar_before_in (ModeOptions.by_grammar trees) file = grammar_before trees.grammar file
+
+abbrev pub paths_before : ProblemOptions → NamedFile → List (List ℕ)
+paths_before options named.Input = grammar_paths_in options.mode
+paths_before options named.Grammar = grammar_before_in options.mode named.Grammar
+paths_before options named.Lexer = grammar_before_in options.mode named.Lexer
+paths_before options named.Result = []
+paths_before options named.Journal = []
 
 -- the grammar's files spell a grammar, the input was read within its limit, and the fact holds of the two
 abbrev pub InputHas : GrammarSource → (CheckedGrammar → List ℕ → Type 0) → ProblemOptions → SeenFiles → Type 0

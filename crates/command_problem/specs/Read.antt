@@ -1,5 +1,5 @@
 -- What was found in an input by a grammar, and why nothing was.
-use Rattle.std.specs.Prelude.{◌≡◌, ℕ, List, string_bytes}
+use Rattle.std.specs.Prelude.{◌≡◌, ℕ, List, [], ◌∷◌, ◌++◌, string_bytes}
 use Rattle.edge_io.specs.Files.{IsLonger}
 use Rattle.grammar_tree.specs.Written.{CheckedGrammar}
 use Rattle.reduce_trees_input.specs.Parsed.{MakesInputOf}
@@ -12,10 +12,11 @@ use Rattle.command_ends.specs.declared.status.NamedFile.TheVariants as named
 use Rattle.command_ends.specs.declared.status.Refusal.{Refusal}
 use Rattle.command_ends.specs.declared.status.Refusal.TheVariants.{Memory, CannotRead, TooLong, Grammar, Uncut, NoParse}
 use Rattle.command_ends.specs.Status.{IsUncut}
-use Rattle.command_ends.specs.World.{CallFailed, IsQuiet, SeenFiles, WasRead, input_limit, line_of_text}
+use Rattle.command_ends.specs.World.{CallFailed, IsQuiet, SeenCalls, SeenFiles, SomeRead, UnreadAfter, WasRead, WereRead, input_limit, line_of_text}
 use Rattle.command_words.specs.Commands.{GrammarOptions, GrammarSource, ModeOptions}
-use Rattle.command_grammar.specs.Grammar.{GrammarFails, GrammarRead}
-use Rattle.command_problem.specs.Problem.{InputHas, IsReached, ProblemOptions, limit_of, path_in}
+use Rattle.command_grammar.specs.Grammar.{GrammarCalls, GrammarFails, GrammarRead}
+use Rattle.command_grammar.specs.Texts.{grammar_paths}
+use Rattle.command_problem.specs.Problem.{InputHas, IsReached, ProblemOptions, grammar_paths_in, limit_of, path_in, paths_before, problem_paths}
 use Rattle.command_problem.specs.declared.read.ReadTree.{ReadTree}
 
 -- The grammar was read, and the input, of whose text what was found makes the input of a reduction.
@@ -31,7 +32,7 @@ InputIsFaulty named input files fault =
 
 -- why nothing is found: a file wasn't read, the grammar is faulty, or the input isn't in its language
 abbrev pub TreeFails : GrammarSource → List ℕ → SeenFiles → SeenFiles → Refusal → Type 0
-TreeFails grammar input files files' Memory = IsQuiet files files'
+TreeFails grammar input files files' (Memory _) = IsQuiet files files'
 TreeFails grammar input files files' (CannotRead named.Input) =
     ((c : CheckedGrammar) × GrammarRead grammar files c) × CallFailed files files'
 TreeFails grammar input files files' (CannotRead named.Grammar) = GrammarFails grammar files files' (CannotRead named.Grammar)
@@ -49,7 +50,7 @@ TreeFails grammar input files files' _ = ⊥
 
 -- why there is no problem: a file wasn't read, the grammar is faulty, or the input isn't in its language
 abbrev pub ProblemFails : ProblemOptions → SeenFiles → SeenFiles → Refusal → Type 0
-ProblemFails options files files' Memory = IsQuiet files files'
+ProblemFails options files files' (Memory _) = IsQuiet files files'
 ProblemFails options files files' (CannotRead file) = IsReached options.mode file files × CallFailed files files'
 ProblemFails options files files' (TooLong file) =
     IsReached options.mode file files × IsLonger (limit_of file) (files.shown (path_in options file)) × IsQuiet files files'
@@ -63,3 +64,28 @@ ProblemFails options files files' NoParse =
     (trees : GrammarOptions) × (options.mode ≡ ModeOptions.by_grammar trees)
     × InputHas trees.grammar (λ c bytes. IsInputFault c bytes input_fault.NoParse) options files × IsQuiet files files'
 ProblemFails options files files' _ = ⊥
+
+-- Which files were read then, the grammar's and then the input's: those up to the one that the refusal names; the grammar's, where it is faulty; all, where
+-- the input isn't in its language; or some, where memory ran out.
+abbrev pub TreeCalls : GrammarSource → List ℕ → SeenCalls → SeenCalls → Refusal → Type 0
+TreeCalls grammar input old new (Memory _) = SomeRead (grammar_paths grammar ++ input ∷ []) old new
+TreeCalls grammar input old new (CannotRead named.Input) = UnreadAfter (grammar_paths grammar) input old new
+TreeCalls grammar input old new (CannotRead named.Grammar) = GrammarCalls grammar old new (CannotRead named.Grammar)
+TreeCalls grammar input old new (CannotRead named.Lexer) = GrammarCalls grammar old new (CannotRead named.Lexer)
+TreeCalls grammar input old new (TooLong named.Input) = WereRead (grammar_paths grammar ++ input ∷ []) old new
+TreeCalls grammar input old new (TooLong named.Grammar) = GrammarCalls grammar old new (TooLong named.Grammar)
+TreeCalls grammar input old new (TooLong named.Lexer) = GrammarCalls grammar old new (TooLong named.Lexer)
+TreeCalls grammar input old new (Grammar line) = WereRead (grammar_paths grammar) old new
+TreeCalls grammar input old new (Uncut line) = WereRead (grammar_paths grammar ++ input ∷ []) old new
+TreeCalls grammar input old new NoParse = WereRead (grammar_paths grammar ++ input ∷ []) old new
+TreeCalls grammar input old new _ = ⊥
+
+-- the same of a problem
+abbrev pub ProblemCalls : ProblemOptions → SeenCalls → SeenCalls → Refusal → Type 0
+ProblemCalls options old new (Memory _) = SomeRead (problem_paths options) old new
+ProblemCalls options old new (CannotRead file) = UnreadAfter (paths_before options file) (path_in options file) old new
+ProblemCalls options old new (TooLong file) = WereRead (paths_before options file ++ path_in options file ∷ []) old new
+ProblemCalls options old new (Grammar line) = WereRead (grammar_paths_in options.mode) old new
+ProblemCalls options old new (Uncut line) = WereRead (problem_paths options) old new
+ProblemCalls options old new NoParse = WereRead (problem_paths options) old new
+ProblemCalls options old new _ = ⊥

@@ -1,10 +1,11 @@
 //! Reading the grammar and the input that a command line names.
 
-ghost use Rattle.std.specs.Prelude.{IfErr, IfOk, OnOk};
+ghost use Rattle.std.specs.Prelude.{[], ◌∷◌, ◌++◌, IfErr, IfOk, OnOk};
 ghost use Rattle.edge_io.specs.Files.{SameFiles};
-ghost use Rattle.command_problem.specs.Read.{GivesTree, TreeFails};
+ghost use Rattle.command_grammar.specs.Texts.{grammar_paths};
+ghost use Rattle.command_problem.specs.Read.{GivesTree, TreeCalls, TreeFails};
 ghost use Rattle.command_words.specs.Lines.{grammar_read};
-ghost use Rattle.command_ends.specs.World.{IsQuiet, seen};
+ghost use Rattle.command_ends.specs.World.{IsQuiet, WereRead, seen};
 
 use command_ends::{Refusal, read_input};
 use command_grammar::grammar_of_files;
@@ -33,6 +34,8 @@ pub fn read_tree<F: Files>(
     ensures same { SameFiles (F.content files.old) (F.content files.new) }
     ensures refused { IfErr result (λ refusal. TreeFails (grammar_read grammar.entry) input.now (seen F.content F.faults files.old)
         (seen F.content F.faults files.new) refusal) }
+    ensures read { OnOk result (WereRead (grammar_paths (grammar_read grammar.entry) ++ input.now ∷ []) (F.calls files.old) (F.calls files.new)) }
+    ensures calls { IfErr result (TreeCalls (grammar_read grammar.entry) input.now (F.calls files.old) (F.calls files.new)) }
 {
     let checked = grammar_of_files(alloc, grammar, files)?;
     checked.is_checked();

@@ -1,4 +1,5 @@
 use Rattle.std.proofs.Common.{◌≢◌, refl, rules}
+use Rattle.faults.specs.Memory.{ran_out}
 use Rattle.grammar_load_pair.specs.Message.{pair_grammar_fault_text}
 use Rattle.grammar_load_pair.specs.declared.fault.PairGrammarFault.TheVariants as fault
 use Rattle.command_words.specs.Lines.{grammar_read}
@@ -13,7 +14,7 @@ returns-in-Ok-clause-ok c =
 
 pub returns-in-Err-clause-refused : goal.returns-in-Err-clause-refused
 returns-in-Err-clause-refused c =
-    let caused : c.in-Err.fault ≢ fault.Memory = search rules in
+    let caused : c.in-Err.fault ≢ fault.Memory ran_out = search rules in
     has_fault (grammar_read c.args.grammar) _ (GrammarTexts.pair c.args.lexer.now c.args.parser.now)
     (pair_grammar_fault_text c.in-Err.fault) c.named_start.ensures
     (pair_small c.args.lexer.now c.args.parser.now c.requires.lexer c.requires.parser) (c.in-Err.fault, caused, c.in-Err.ensures.fault, refl)

@@ -1,4 +1,5 @@
 use Rattle.std.proofs.Common.{◌≢◌, refl, rules}
+use Rattle.faults.specs.Memory.{ran_out}
 use Rattle.grammar_load.specs.Message.{grammar_fault_text}
 use Rattle.grammar_load.specs.declared.fault.GrammarFault.TheVariants as fault
 use Rattle.command_words.specs.Lines.{grammar_read}
@@ -13,7 +14,7 @@ returns-in-Ok-clause-ok c =
 
 pub returns-in-Err-clause-refused : goal.returns-in-Err-clause-refused
 returns-in-Err-clause-refused c =
-    let caused : c.in-Err.fault ≢ fault.Memory = search rules in
+    let caused : c.in-Err.fault ≢ fault.Memory ran_out = search rules in
     has_fault (grammar_read c.args.grammar) _ (GrammarTexts.one c.args.text.now) (grammar_fault_text c.in-Err.fault) c.named_start.ensures
     (one_small c.args.text.now c.requires) (c.in-Err.fault, caused, c.in-Err.ensures.fault, refl)
     (λ it spelled. caused (c.in-Err.ensures.only it spelled)) c.of_grammar.result c.of_grammar.ensures
