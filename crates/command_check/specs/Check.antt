@@ -20,10 +20,11 @@ use Rattle.command_ends.specs.declared.status.NamedFile.{NamedFile}
 use Rattle.command_ends.specs.declared.status.NamedFile.TheVariants as named
 use Rattle.command_ends.specs.Status.{IsOneOf, IsUncut, bad_record_text, fault_line, keep_text, word_for}
 use Rattle.command_ends.specs.World.{CallFailed, IsOver, IsQuiet, IsShownWithin, Puts, PutsLine, PutsMessage, PutsPrefix, SeenFiles, SeenOut, WasRead}
-use Rattle.command_ends.specs.World.{grammar_limit, input_limit, journal_limit, result_limit}
+use Rattle.command_ends.specs.World.{SeenCalls, SomeRead, UnreadAfter, WereRead, grammar_limit, input_limit, journal_limit, result_limit}
 use Rattle.command_grammar.specs.Grammar.{IsFaultIn, IsGrammarText}
-use Rattle.command_grammar.specs.Texts.{GrammarIsShown, GrammarWasRead}
+use Rattle.command_grammar.specs.Texts.{GrammarIsShown, GrammarWasRead, grammar_paths}
 use Rattle.command_problem.specs.Problem.{InputHas, IsReached, IsShownFault, IsShownGrammar, IsShownProblem, ProblemOptions, ProblemRead, limit_of, path_in}
+use Rattle.command_problem.specs.Problem.{paths_before, problem_paths}
 use Rattle.command_words.specs.Commands.{CheckOptions, GrammarOptions, ModeOptions}
 
 -- what its command line says of the problem: what has each keep text is admitted
@@ -71,6 +72,15 @@ path_of_file options named.Result = options.output
 path_of_file options named.Journal = options.journal
 path_of_file options file = path_in (checked_problem options) file
 
+-- the paths of all files that are read, in their order: the grammar's, the input's, the result's and the journal's; and of those before this one
+abbrev pub read_paths : CheckOptions → List (List ℕ)
+read_paths options = problem_paths (checked_problem options) ++ options.output ∷ options.journal ∷ []
+
+abbrev pub read_before : CheckOptions → NamedFile → List (List ℕ)
+read_before options named.Result = problem_paths (checked_problem options)
+read_before options named.Journal = problem_paths (checked_problem options) ++ options.output ∷ []
+read_before options file = paths_before (checked_problem options) file
+
 -- bytes are the journal of no history
 abbrev pub HaveNoHistory : List ℕ → Type 0
 HaveNoHistory bytes = (head : Head) (history : History) (torn : ℕ) → ¬ IsJournalOf bytes head history torn
@@ -80,79 +90,91 @@ abbrev pub JournalIsBad : (List ℕ → Type 0) → CheckOptions → SeenFiles �
 JournalIsBad P options files = IsJournalReached options files × WasRead journal_limit (files.shown options.journal) (λ bytes. P bytes × HaveNoHistory bytes)
 
 -- How `check` ends, by its status.
-pub data CheckEnds (options : CheckOptions) (files files' : SeenFiles) (out out' : SeenOut) : ℕ → Type 0 where
+pub data CheckEnds (options : CheckOptions) (files files' : SeenFiles) (calls calls' : SeenCalls) (out out' : SeenOut) : ℕ → Type 0 where
   -- the files are those of a finished run, which was put, and no call failed
   confirmed : (found : ConfirmedIn options files)
       → (quiet : IsQuiet files files')
+      → (reads : WereRead (read_paths options) calls calls')
       → (put : Puts (codes "check: yes\n") out out')
-      → CheckEnds options files files' out out' 0
+      → CheckEnds options files files' calls calls' out out' 0
   -- out of memory, for which there is no evidence
   memory : (quiet : IsQuiet files files')
+      → (reads : SomeRead (read_paths options) calls calls')
       → (line : PutsMessage (codes "out of memory") out out')
-      → CheckEnds options files files' out out' 1
-  -- a call of the files failed, and the line names one of those that are read
+      → CheckEnds options files files' calls calls' out out' 1
+  -- a read failed of the file that the line names, after those of the files before it
   unread : (file : NamedFile)
       → (reached : IsFileReached options file files)
       → (failed : CallFailed files files')
+      → (reads : UnreadAfter (read_before options file) (path_of_file options file) calls calls')
       → (line : PutsMessage (codes "cannot read " ++ word_for file) out out')
-      → CheckEnds options files files' out out' 3
+      → CheckEnds options files files' calls calls' out out' 3
   -- the files are those of a finished run, but the put of that failed: some prefix of it was put, and nothing more
   unput : (found : ConfirmedIn options files)
       → (quiet : IsQuiet files files')
+      → (reads : WereRead (read_paths options) calls calls')
       → (put : PutsPrefix (codes "check: yes\n") out out')
-      → CheckEnds options files files' out out' 4
+      → CheckEnds options files files' calls calls' out out' 4
   -- the grammar's files have no well-formed grammar, and the line says why
   faulty : (trees : GrammarOptions) (text : List ℕ)
       → (mode : options.mode ≡ ModeOptions.by_grammar trees)
       → (read : GrammarWasRead trees.grammar files (λ texts. IsFaultIn trees.grammar texts text))
       → (quiet : IsQuiet files files')
+      → (reads : WereRead (grammar_paths trees.grammar) calls calls')
       → (line : PutsLine (fault_line text) out out')
-      → CheckEnds options files files' out out' 5
+      → CheckEnds options files files' calls calls' out out' 5
   -- the grammar was read; the input isn't UTF-8, or isn't cut into tokens, and the line says from where on
   no_token : (trees : GrammarOptions) (fault : InputFault)
       → (mode : options.mode ≡ ModeOptions.by_grammar trees)
       → (uncut : IsUncut fault)
       → (read : InputHas trees.grammar (λ c bytes. IsInputFault c bytes fault) (checked_problem options) files)
       → (quiet : IsQuiet files files')
+      → (reads : WereRead (problem_paths (checked_problem options)) calls calls')
       → (line : PutsMessage (input_fault_text fault) out out')
-      → CheckEnds options files files' out out' 6
+      → CheckEnds options files files' calls calls' out out' 6
   -- the grammar was read, and its start rule doesn't derive the input's tokens
   unparsed : (trees : GrammarOptions)
       → (mode : options.mode ≡ ModeOptions.by_grammar trees)
       → (read : InputHas trees.grammar (λ c bytes. IsInputFault c bytes input_fault.NoParse) (checked_problem options) files)
       → (quiet : IsQuiet files files')
+      → (reads : WereRead (problem_paths (checked_problem options)) calls calls')
       → (line : PutsMessage (codes "input does not parse") out out')
-      → CheckEnds options files files' out out' 7
+      → CheckEnds options files files' calls calls' out out' 7
   -- the input was read, a keep text doesn't occur in it, and the line names the first such by its number from 1
   keep_missing : (index : ℕ)
       → (read : ProblemRead (checked_problem options) files (λ problem. first_missing options.keeps (start_text problem) ≡ Some index))
       → (quiet : IsQuiet files files')
+      → (reads : WereRead (problem_paths (checked_problem options)) calls calls')
       → (line : PutsMessage (keep_text (index + 1)) out out')
-      → CheckEnds options files files' out out' 9
+      → CheckEnds options files files' calls calls' out out' 9
   -- a file that is read is longer than its limit, and the line names it
   too_long : (file : NamedFile)
       → (reached : IsFileReached options file files)
       → (longer : IsLonger (limit_of file) (files.shown (path_of_file options file)))
       → (quiet : IsQuiet files files')
+      → (reads : WereRead (read_before options file ++ path_of_file options file ∷ []) calls calls')
       → (line : PutsMessage (word_for file ++ codes " is too long") out out')
-      → CheckEnds options files files' out out' 10
+      → CheckEnds options files files' calls calls' out out' 10
   -- the problem and the result were read, and the journal, which begins with no whole head
   no_head : (read : JournalIsBad LacksHead options files)
       → (quiet : IsQuiet files files')
+      → (reads : WereRead (read_paths options) calls calls')
       → (line : PutsMessage (codes "bad journal head") out out')
-      → CheckEnds options files files' out out' 14
+      → CheckEnds options files files' calls calls' out out' 14
   -- the same of a journal that has neither an event, nor its end, nor a torn tail at the offset that the line names
   bad_event : (offset : ℕ)
       → (read : JournalIsBad (λ bytes. IsBadAt bytes offset) options files)
       → (quiet : IsQuiet files files')
+      → (reads : WereRead (read_paths options) calls calls')
       → (line : PutsMessage (bad_record_text offset) out out')
-      → CheckEnds options files files' out out' 14
+      → CheckEnds options files files' calls calls' out out' 14
   -- the files aren't those of a finished run, and the line says the first cause
   not_confirmed : (why : Why)
       → (found : FoundIn options files (No why))
       → (quiet : IsQuiet files files')
+      → (reads : WereRead (read_paths options) calls calls')
       → (line : PutsMessage (codes "check: " ++ why_text why) out out')
-      → CheckEnds options files files' out out' 15
+      → CheckEnds options files files' calls calls' out out' 15
 
 -- What is visible is a problem in whose start each keep text occurs.
 abbrev pub IsShownHeld : CheckOptions → SeenFiles → Type 0
@@ -228,7 +250,7 @@ pub record CheckMustEnd (options : CheckOptions) (files files' : SeenFiles) (out
   pub out_failed : ¬ IsQuiet out out' → status ≢ 0
 
 -- A run of `check` with these options. Every file is as before.
-pub record Checks (options : CheckOptions) (files files' : SeenFiles) (out out' : SeenOut) (status : ℕ) : Type 0 where
-  pub ends : CheckEnds options files files' out out' status
+pub record Checks (options : CheckOptions) (files files' : SeenFiles) (calls calls' : SeenCalls) (out out' : SeenOut) (status : ℕ) : Type 0 where
+  pub ends : CheckEnds options files files' calls calls' out out' status
   pub must_end : CheckMustEnd options files files' out out' status
   pub same : SameFiles files.shown files'.shown

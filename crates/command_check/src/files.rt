@@ -1,15 +1,16 @@
 //! Reading the files of a run that is checked.
 
-ghost use Rattle.std.specs.Prelude.{◌≡◌, true, IfErr, IfOk, OnOk, map};
+ghost use Rattle.std.specs.Prelude.{◌≡◌, [], ◌∷◌, true, IfErr, IfOk, OnOk, map};
 ghost use Rattle.edge_io.specs.Files.{SameFiles};
 ghost use Rattle.keep_guard.specs.Keep.{holds_all};
 ghost use Rattle.cert_check.specs.Findings.{head_in};
-ghost use Rattle.command_check.specs.Check.{IsResultReached, RunRead};
+ghost use Rattle.command_check.specs.Check.{IsResultReached, RunRead, checked_problem};
+ghost use Rattle.command_problem.specs.Problem.{problem_paths};
 ghost use Rattle.command_check.specs.inner.Check.{CheckFails, IsSetupRead};
 ghost use Rattle.command_words.specs.Lines.{check_read};
 ghost use Rattle.command_words.specs.declared.commands.ModeLine.TheVariants.{ByGrammar, Lines};
 ghost use Rattle.command_ends.specs.Status.{KeepsFail};
-ghost use Rattle.command_ends.specs.World.{IsQuiet, seen};
+ghost use Rattle.command_ends.specs.World.{IsQuiet, SeenCalls, WereRead, seen};
 
 use cert_check::Setup;
 use command_ends::{JOURNAL_LIMIT, NamedFile, Refusal, held_texts, read_file, read_input};
@@ -57,7 +58,8 @@ fn lines_setup<F: Files>(
     ensures quiet { OnOk result (IsQuiet (seen F.content F.faults files.old) (seen F.content F.faults files.new)) }
     ensures same { SameFiles (F.content files.old) (F.content files.new) }
     ensures refused { IfErr result (λ refusal. CheckFails (check_read line.now) (seen F.content F.faults files.old)
-        (seen F.content F.faults files.new) refusal) }
+        (seen F.content F.faults files.new) (F.calls files.old) (F.calls files.new) refusal) }
+    ensures read { OnOk result (WereRead (problem_paths (checked_problem (check_read line.now))) (F.calls files.old) (F.calls files.new)) }
 {
     let start = read_input(files, line.input)?;
     let keeps = keeps_of(alloc, &line.keeps, &start)?;
@@ -79,7 +81,8 @@ fn tree_setup<F: Files>(
     ensures quiet { OnOk result (IsQuiet (seen F.content F.faults files.old) (seen F.content F.faults files.new)) }
     ensures same { SameFiles (F.content files.old) (F.content files.new) }
     ensures refused { IfErr result (λ refusal. CheckFails (check_read line.now) (seen F.content F.faults files.old)
-        (seen F.content F.faults files.new) refusal) }
+        (seen F.content F.faults files.new) (F.calls files.old) (F.calls files.new) refusal) }
+    ensures read { OnOk result (WereRead (problem_paths (checked_problem (check_read line.now))) (F.calls files.old) (F.calls files.new)) }
 {
     inputs_are_one();
     inputs_are_in_language();
@@ -104,7 +107,8 @@ pub(crate) fn read_setup<F: Files>(
     ensures quiet { OnOk result (IsQuiet (seen F.content F.faults files.old) (seen F.content F.faults files.new)) }
     ensures same { SameFiles (F.content files.old) (F.content files.new) }
     ensures refused { IfErr result (λ refusal. CheckFails (check_read line.now) (seen F.content F.faults files.old)
-        (seen F.content F.faults files.new) refusal) }
+        (seen F.content F.faults files.new) (F.calls files.old) (F.calls files.new) refusal) }
+    ensures read { OnOk result (WereRead (problem_paths (checked_problem (check_read line.now))) (F.calls files.old) (F.calls files.new)) }
 {
     match line.mode {
         ModeLine::Lines => lines_setup(alloc, line, files),
@@ -129,8 +133,11 @@ pub(crate) fn read_run<F: Files>(
         (head_in run.journal) run.journal.events.items run.journal.torn) }
     ensures quiet { OnOk result (IsQuiet (seen F.content F.faults files.old) (seen F.content F.faults files.new)) }
     ensures same { SameFiles (F.content files.old) (F.content files.new) }
-    ensures refused { IsResultReached (check_read line.now) (seen F.content F.faults files.old) → IfErr result (λ refusal. CheckFails (check_read line.now)
-        (seen F.content F.faults files.old) (seen F.content F.faults files.new) refusal) }
+    ensures refused { IsResultReached (check_read line.now) (seen F.content F.faults files.old)
+        → (calls : SeenCalls) → WereRead (problem_paths (checked_problem (check_read line.now))) calls (F.calls files.old)
+        → IfErr result (λ refusal. CheckFails (check_read line.now)
+        (seen F.content F.faults files.old) (seen F.content F.faults files.new) calls (F.calls files.new) refusal) }
+    ensures read { OnOk result (WereRead (line.now.output.now ∷ line.now.journal.now ∷ []) (F.calls files.old) (F.calls files.new)) }
 {
     let output = read_file(files, line.output, RESULT_LIMIT, NamedFile::Result)?;
     let read = read_file(files, line.journal, JOURNAL_LIMIT, NamedFile::Journal)?;

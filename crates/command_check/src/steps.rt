@@ -2,10 +2,10 @@
 
 ghost use Rattle.std.specs.Prelude.{◌≡◌, IfErr, IfOk, OnOk, codes};
 ghost use Rattle.edge_io.specs.Files.{SameFiles};
-ghost use Rattle.command_check.specs.Check.{Checks, ConfirmedIn};
+ghost use Rattle.command_check.specs.Check.{Checks, ConfirmedIn, read_paths};
 ghost use Rattle.command_check.specs.inner.Check.{CheckFails, IsCauseRefusal};
 ghost use Rattle.command_words.specs.Lines.{check_read};
-ghost use Rattle.command_ends.specs.World.{IsQuiet, seen};
+ghost use Rattle.command_ends.specs.World.{IsQuiet, OnePut, WereRead, seen};
 
 use crate::files::{read_run, read_setup};
 use cert_check::{Finding, Why, check_run, one_is_found};
@@ -23,7 +23,7 @@ fn refusal_of(alloc: Global, why: Why) -> Refusal
 {
     match format!(in alloc; "perses: check: {why}\n") {
         Ok(line) => Refusal::NotConfirmed(line),
-        Err(_) => Refusal::Memory,
+        Err(refused) => Refusal::Memory(Memory::from(refused)),
     }
 }
 
@@ -45,7 +45,8 @@ fn answer_of<F: Files>(
     ensures quiet { OnOk result (IsQuiet (seen F.content F.faults files.old) (seen F.content F.faults files.new)) }
     ensures same { SameFiles (F.content files.old) (F.content files.new) }
     ensures refused { IfErr result (λ refusal. CheckFails (check_read line.now) (seen F.content F.faults files.old)
-        (seen F.content F.faults files.new) refusal) }
+        (seen F.content F.faults files.new) (F.calls files.old) (F.calls files.new) refusal) }
+    ensures read { OnOk result (WereRead (read_paths (check_read line.now)) (F.calls files.old) (F.calls files.new)) }
 {
     let setup = read_setup(alloc, line, files)?;
     let run = read_run(alloc, line, files)?;
@@ -68,8 +69,9 @@ pub fn check<F: Files, O: Sink>(
     files: &mut F,
     out: &mut O,
 ) -> u8
-    ensures { Checks (check_read line.now) (seen F.content F.faults files.old) (seen F.content F.faults files.new) (seen O.put_so_far O.faults out.old)
-        (seen O.put_so_far O.faults out.new) result }
+    ensures ends { Checks (check_read line.now) (seen F.content F.faults files.old) (seen F.content F.faults files.new)
+        (F.calls files.old) (F.calls files.new) (seen O.put_so_far O.faults out.old) (seen O.put_so_far O.faults out.new) result }
+    ensures one_put { OnePut (O.puts out.old) (O.puts out.new) }
 {
     input_fault_once();
     inputs_are_in_language();

@@ -1,18 +1,20 @@
 -- Why there is no normal form, and how `normal` ends.
 use Rattle.std.proofs.Common.{inl, inr, ℕ, List, refl, sym, subst, Result, Ok, Err, IfOk, IfErr, OnOk, MatchResult, Vec}
+use Rattle.faults.specs.Memory.{ran_out}
 use Rattle.edge_io.specs.Files.{SameFiles}
 use Rattle.grammar_tree.specs.Written.{CheckedGrammar}
 use Rattle.command_ends.specs.declared.status.Refusal.{Refusal}
 use Rattle.command_ends.specs.declared.status.Refusal.TheVariants.{Memory, CannotRead, Grammar, TooLong}
-use Rattle.command_grammar.specs.Grammar.{GrammarFails, GrammarRead, IsGrammarText, SpellsTheGrammar}
-use Rattle.command_grammar.specs.Texts.{AreSpelled, GrammarIsShown, GrammarTexts, GrammarWasRead}
+use Rattle.command_grammar.specs.Grammar.{GrammarCalls, GrammarFails, GrammarRead, IsGrammarText, SpellsTheGrammar}
+use Rattle.command_grammar.specs.Texts.{AreSpelled, GrammarIsShown, GrammarTexts, GrammarWasRead, grammar_paths}
 use Rattle.command_normal.specs.Normal.{IsNormalOf, NormalEnds, NormalMustEnd, PrintsNormal}
 use Rattle.command_normal.specs.inner.Normal.{NormalFails}
 use Rattle.command_normal.specs.Normal.NormalEnds.{done, memory, unread as cannot_read, unput, faulty, too_long}
 use Rattle.command_ends.specs.Status.{EndsRefused, EndsWithAnswer}
 use Rattle.command_words.specs.Commands.{GrammarSource}
 use Rattle.command_grammar.specs.Grammar.{start_name}
-use Rattle.command_ends.specs.World.{IsQuiet, PutsLine, SeenFiles, SeenOut}
+use Rattle.command_ends.specs.World.{IsQuiet, PutsLine, SeenCalls, SeenFiles, SeenOut, WereRead}
+use Rattle.command_ends.proofs.Lent.{all_some}
 use Rattle.command_grammar.proofs.Lent.{are_texts, fault_not_shown, grammar_not_missing, grammar_not_over, lexer_not_missing}
 use Rattle.command_grammar.proofs.Lent.{lexer_not_over, long_not_missing, read_and_shown, read_map, shown_not_longer}
 
@@ -24,31 +26,33 @@ is_formed named files grammar text was formed =
     read_map named files (λ texts. SpellsTheGrammar named texts grammar) (λ texts. IsNormalOf named texts text)
     (λ texts spells. formed texts spells.spelled) was
 
-module _ (grammar : GrammarSource) (files files' : SeenFiles) where
+module _ (grammar : GrammarSource) (files files' : SeenFiles) (calls calls' : SeenCalls) where
   -- what gives no grammar ends the command
-  pub fails_grammar : (refusal : Refusal) → GrammarFails grammar files files' refusal → NormalFails grammar files files' refusal
-  fails_grammar Memory why = λ out out' put. memory why put
-  fails_grammar (CannotRead file) why = λ out out' put. cannot_read file why.0 why.1 put
-  fails_grammar (TooLong file) why = λ out out' put. too_long file why.0 why.1 why.2 put
-  fails_grammar (Grammar line) why = λ out out' put. faulty why.0 why.1 why.3 (subst (λ l. PutsLine l out out') why.2 put)
-  fails_grammar _ why = absurd why
+  pub fails_grammar : (refusal : Refusal) → GrammarFails grammar files files' refusal → GrammarCalls grammar calls calls' refusal
+      → NormalFails grammar files files' calls calls' refusal
+  fails_grammar (Memory _) why reads = λ out out' put. memory why reads put
+  fails_grammar (CannotRead file) why reads = λ out out' put. cannot_read file why.0 why.1 reads put
+  fails_grammar (TooLong file) why reads = λ out out' put. too_long file why.0 why.1 why.2 reads put
+  fails_grammar (Grammar line) why reads = λ out out' put. faulty why.0 why.1 why.3 reads (subst (λ l. PutsLine l out out') why.2 put)
+  fails_grammar _ why reads = absurd why
 
   -- so does the lack of memory after it was read
-  pub fails_memory : IsQuiet files files' → NormalFails grammar files files' Memory
-  fails_memory quiet = λ out out' put. memory quiet put
+  pub fails_memory : IsQuiet files files' → WereRead (grammar_paths grammar) calls calls' → NormalFails grammar files files' calls calls' (Memory ran_out)
+  fails_memory quiet reads = λ out out' put. memory quiet (all_some (grammar_paths grammar) calls calls' reads) put
 
   module _ (out out' : SeenOut) where
     -- the end of the command
     pub normal_ends : {A : Type 0} (outcome : Result (Vec ℕ A) Refusal) (status : ℕ)
         → IfOk outcome (λ form. GrammarWasRead grammar files (λ texts. IsNormalOf grammar texts form.items)) → OnOk outcome (IsQuiet files files')
-        → IfErr outcome (λ refusal. NormalFails grammar files files' refusal)
+        → OnOk outcome (WereRead (grammar_paths grammar) calls calls') → IfErr outcome (λ refusal. NormalFails grammar files files' calls calls' refusal)
         → MatchResult outcome (λ answer. EndsWithAnswer answer.items out out' status) (λ refusal. EndsRefused out out' status refusal)
-        → NormalEnds grammar files files' out out' status
-    normal_ends (Ok form) status formed quiet fails (inl (is, put)) =
-        subst (NormalEnds grammar files files' out out') (sym is) (done form.items formed quiet put)
-    normal_ends (Ok form) status formed quiet fails (inr (is, put)) =
-        subst (NormalEnds grammar files files' out out') (sym is) (unput form.items formed quiet put)
-    normal_ends (Err refusal) status formed quiet fails end = subst (NormalEnds grammar files files' out out') (sym end.status_is) (fails out out' end.line)
+        → NormalEnds grammar files files' calls calls' out out' status
+    normal_ends (Ok form) status formed quiet reads fails (inl (is, put)) =
+        subst (NormalEnds grammar files files' calls calls' out out') (sym is) (done form.items formed quiet reads put)
+    normal_ends (Ok form) status formed quiet reads fails (inr (is, put)) =
+        subst (NormalEnds grammar files files' calls calls' out out') (sym is) (unput form.items formed quiet reads put)
+    normal_ends (Err refusal) status formed quiet reads fails end = subst (NormalEnds grammar files files' calls calls' out out')
+        (sym end.status_is) (fails out out' end.line)
 
     formed_not_faulty : (text : List ℕ) → GrammarWasRead grammar files (λ texts. IsNormalOf grammar texts text)
         → GrammarIsShown grammar files (λ texts. ¬ IsGrammarText grammar texts) → ⊥
@@ -57,8 +61,8 @@ module _ (grammar : GrammarSource) (files files' : SeenFiles) where
         it.2 (are_texts grammar it.0 it.1.grammar it.1.spelled)
 
     -- which status it has to be
-    normal_must_end : {status : ℕ} → NormalEnds grammar files files' out out' status → NormalMustEnd grammar files files' out out' status
-    normal_must_end (done text is quiet put) = record {
+    normal_must_end : {status : ℕ} → NormalEnds grammar files files' calls calls' out out' status → NormalMustEnd grammar files files' out out' status
+    normal_must_end (done text is quiet reads put) = record {
       over = λ over. absurd (grammar_not_over grammar files _ is over);
       missing = λ none. absurd (grammar_not_missing grammar files _ is none);
       lexer_over = λ lexer named over. absurd (lexer_not_over grammar files lexer named _ is over);
@@ -68,7 +72,7 @@ module _ (grammar : GrammarSource) (files files' : SeenFiles) where
       files_failed = λ failed. absurd (failed quiet);
       out_failed = λ failed. absurd (failed put.quiet);
     }
-    normal_must_end (memory quiet put) = record {
+    normal_must_end (memory quiet reads put) = record {
       over = λ over. inr (inr refl);
       missing = λ none. inr refl;
       lexer_over = λ lexer named over. inr (inr refl);
@@ -78,7 +82,7 @@ module _ (grammar : GrammarSource) (files files' : SeenFiles) where
       files_failed = λ failed. absurd (failed quiet);
       out_failed = λ failed is. cc is;
     }
-    normal_must_end (cannot_read file reached failed put) = record {
+    normal_must_end (cannot_read file reached failed reads put) = record {
       over = λ over. inr (inl refl);
       missing = λ none. inl refl;
       lexer_over = λ lexer named over. inr (inl refl);
@@ -88,7 +92,7 @@ module _ (grammar : GrammarSource) (files files' : SeenFiles) where
       files_failed = λ failed. refl;
       out_failed = λ failed is. cc is;
     }
-    normal_must_end (unput text is quiet put) = record {
+    normal_must_end (unput text is quiet reads put) = record {
       over = λ over. absurd (grammar_not_over grammar files _ is over);
       missing = λ none. absurd (grammar_not_missing grammar files _ is none);
       lexer_over = λ lexer named over. absurd (lexer_not_over grammar files lexer named _ is over);
@@ -98,7 +102,7 @@ module _ (grammar : GrammarSource) (files files' : SeenFiles) where
       files_failed = λ failed. absurd (failed quiet);
       out_failed = λ failed is. cc is;
     }
-    normal_must_end (faulty text is quiet put) = record {
+    normal_must_end (faulty text is quiet reads put) = record {
       over = λ over. absurd (grammar_not_over grammar files _ is over);
       missing = λ none. absurd (grammar_not_missing grammar files _ is none);
       lexer_over = λ lexer named over. absurd (lexer_not_over grammar files lexer named _ is over);
@@ -108,7 +112,7 @@ module _ (grammar : GrammarSource) (files files' : SeenFiles) where
       files_failed = λ failed. absurd (failed quiet);
       out_failed = λ failed is. cc is;
     }
-    normal_must_end (too_long file reached longer quiet put) = record {
+    normal_must_end (too_long file reached longer quiet reads put) = record {
       over = λ over. inl refl;
       missing = λ none. absurd (long_not_missing grammar files file reached longer none);
       lexer_over = λ lexer named over. inl refl;
@@ -119,6 +123,6 @@ module _ (grammar : GrammarSource) (files files' : SeenFiles) where
       out_failed = λ failed is. cc is;
     }
 
-    pub prints_normal : {status : ℕ} → NormalEnds grammar files files' out out' status → SameFiles files.shown files'.shown
-        → PrintsNormal grammar files files' out out' status
+    pub prints_normal : {status : ℕ} → NormalEnds grammar files files' calls calls' out out' status → SameFiles files.shown files'.shown
+        → PrintsNormal grammar files files' calls calls' out out' status
     prints_normal ends same = record { ends = ends; must_end = normal_must_end ends; same = same }

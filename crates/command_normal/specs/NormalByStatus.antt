@@ -7,7 +7,7 @@ use Rattle.command_grammar.specs.Texts.{GrammarWasRead, IsGrammarFile, path_of}
 use Rattle.command_normal.specs.Normal.{IsNormalOf, NormalEnds}
 use Rattle.command_ends.specs.Status.{IsOneOf, PutsRefusal, fault_line}
 use Rattle.command_words.specs.Commands.{GrammarSource}
-use Rattle.command_ends.specs.World.{PutsPrefix, CallFailed, Puts, PutsLine, SeenFiles, SeenOut, grammar_limit}
+use Rattle.command_ends.specs.World.{PutsPrefix, CallFailed, Puts, PutsLine, SeenCalls, SeenFiles, SeenOut, grammar_limit}
 
 -- What `normal` has done, by the number of its status.
 pub record NormalMeans (grammar : GrammarSource) (files files' : SeenFiles) (out out' : SeenOut) (status : ℕ) : Type 0 where
@@ -21,5 +21,6 @@ pub record NormalMeans (grammar : GrammarSource) (files files' : SeenFiles) (out
 
 abbrev pub NormalByStatus : Type 0
 NormalByStatus =
-    (grammar : GrammarSource) (files files' : SeenFiles) (out out' : SeenOut) (status : ℕ) → NormalEnds grammar files files' out out' status
+    (grammar : GrammarSource) (files files' : SeenFiles) (calls calls' : SeenCalls) (out out' : SeenOut) (status : ℕ)
+    → NormalEnds grammar files files' calls calls' out out' status
     → NormalMeans grammar files files' out out' status

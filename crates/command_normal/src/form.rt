@@ -7,8 +7,8 @@ ghost use Rattle.command_normal.specs.inner.Normal.{NormalFails};
 ghost use Rattle.command_words.specs.Commands.{GrammarSource};
 ghost use Rattle.command_words.specs.Lines.{grammar_read};
 ghost use Rattle.command_grammar.specs.Grammar.{start_name};
-ghost use Rattle.command_grammar.specs.Texts.{AreSpelled, GrammarTexts, GrammarWasRead};
-ghost use Rattle.command_ends.specs.World.{IsQuiet, seen};
+ghost use Rattle.command_grammar.specs.Texts.{AreSpelled, GrammarTexts, GrammarWasRead, grammar_paths};
+ghost use Rattle.command_ends.specs.World.{IsQuiet, OnePut, WereRead, seen};
 
 use command_ends::{Refusal, end_with};
 use command_grammar::grammar_of_files;
@@ -39,7 +39,8 @@ fn form_of_files<F: Files>(
         (λ texts. IsNormalOf (grammar_read grammar.entry) texts form.items)) }
     ensures quiet { OnOk result (IsQuiet (seen F.content F.faults files.old) (seen F.content F.faults files.new)) }
     ensures refused { IfErr result (λ refusal. NormalFails (grammar_read grammar.entry) (seen F.content F.faults files.old)
-        (seen F.content F.faults files.new) refusal) }
+        (seen F.content F.faults files.new) (F.calls files.old) (F.calls files.new) refusal) }
+    ensures read { OnOk result (WereRead (grammar_paths (grammar_read grammar.entry)) (F.calls files.old) (F.calls files.new)) }
     ensures same { SameFiles (F.content files.old) (F.content files.new) }
 {
     let checked = grammar_of_files(alloc, grammar, files)?;
@@ -56,8 +57,9 @@ pub fn normal<F: Files, O: Sink>(
     files: &mut F,
     out: &mut O,
 ) -> u8
-    ensures { PrintsNormal (grammar_read grammar.entry) (seen F.content F.faults files.old) (seen F.content F.faults files.new)
-        (seen O.put_so_far O.faults out.old) (seen O.put_so_far O.faults out.new) result }
+    ensures ends { PrintsNormal (grammar_read grammar.entry) (seen F.content F.faults files.old) (seen F.content F.faults files.new)
+        (F.calls files.old) (F.calls files.new) (seen O.put_so_far O.faults out.old) (seen O.put_so_far O.faults out.new) result }
+    ensures one_put { OnePut (O.puts out.old) (O.puts out.new) }
 {
     let outcome = form_of_files(alloc, grammar, files);
     end_with(out, &outcome)

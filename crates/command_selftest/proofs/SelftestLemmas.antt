@@ -13,7 +13,7 @@ use Rattle.command_ends.specs.World.{PutsLine, SeenOut}
 module _ (options : SelftestOptions) (out out' : SeenOut) where
   -- what gives no summary ends the command
   fails : (refusal : Refusal) → SelftestFails refusal → PutsLine (line_of refusal) out out' → SelftestEnds options out out' (status_of refusal)
-  fails Memory why put = memory put
+  fails (Memory _) why put = memory put
   fails _ why put = absurd why
 
   ends_by : (outcome : Result (Vec ℕ) Refusal) (status : ℕ) → IfOk outcome (λ text. SummarizesCase options text.items) → IfErr outcome SelftestFails

@@ -4,7 +4,7 @@ ghost use Rattle.std.specs.Prelude.{◌≤◌, IfErr, IfOk};
 ghost use Rattle.command_words.specs.Lines.{selftest_read};
 ghost use Rattle.command_selftest.specs.Selftest.{RunsSelftest, SummarizesCase};
 ghost use Rattle.command_selftest.specs.inner.Selftest.{SelftestFails};
-ghost use Rattle.command_ends.specs.World.{seen};
+ghost use Rattle.command_ends.specs.World.{OnePut, seen};
 
 use case_reduction::case_summary;
 use command_ends::{Refusal, end_with};
@@ -39,7 +39,8 @@ pub fn selftest<O: Sink, W: Threads + Wait + Sync>(
 ) -> u8
     requires least { 1 ≤ line.size }
     requires most { line.size ≤ 1500 }
-    ensures { RunsSelftest (selftest_read line) (seen O.put_so_far O.faults out.old) (seen O.put_so_far O.faults out.new) result }
+    ensures ends { RunsSelftest (selftest_read line) (seen O.put_so_far O.faults out.old) (seen O.put_so_far O.faults out.new) result }
+    ensures one_put { OnePut (O.puts out.old) (O.puts out.new) }
 {
     let outcome = summary_of(rt, alloc, line);
     end_with(out, &outcome)

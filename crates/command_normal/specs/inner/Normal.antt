@@ -2,10 +2,10 @@
 use Rattle.command_ends.specs.declared.status.Refusal.{Refusal}
 use Rattle.command_ends.specs.Status.{line_of, status_of}
 use Rattle.command_words.specs.Commands.{GrammarSource}
-use Rattle.command_ends.specs.World.{PutsLine, SeenFiles, SeenOut}
+use Rattle.command_ends.specs.World.{PutsLine, SeenCalls, SeenFiles, SeenOut}
 use Rattle.command_normal.specs.Normal.{NormalEnds}
 
 -- the command ends with this refusal, whatever becomes of its line
-abbrev pub NormalFails : GrammarSource → SeenFiles → SeenFiles → Refusal → Type 0
-NormalFails grammar files files' refusal =
-    (out out' : SeenOut) → PutsLine (line_of refusal) out out' → NormalEnds grammar files files' out out' (status_of refusal)
+abbrev pub NormalFails : GrammarSource → SeenFiles → SeenFiles → SeenCalls → SeenCalls → Refusal → Type 0
+NormalFails grammar files files' calls calls' refusal =
+    (out out' : SeenOut) → PutsLine (line_of refusal) out out' → NormalEnds grammar files files' calls calls' out out' (status_of refusal)

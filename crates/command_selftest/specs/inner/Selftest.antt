@@ -4,5 +4,5 @@ use Rattle.command_ends.specs.declared.status.Refusal.TheVariants.{Memory}
 
 -- only memory can run out
 abbrev pub SelftestFails : Refusal → Type 0
-SelftestFails Memory = Unit {0}
+SelftestFails (Memory _) = Unit {0}
 SelftestFails _ = ⊥

@@ -8,7 +8,8 @@ pub returns-in_err-checked-clause-refused : goal.returns-in_err-checked-clause-r
 returns-in_err-checked-clause-refused g c =
     let p = err_from_is_err_and c.from_residual.result c.from_residual.ensures.1 in
     rw (p.1, p.2) (fails_grammar (grammar_read c.args.grammar) (seen g.F.Files.content g.F.Files.faults c.args.files.now)
-    (seen g.F.Files.content g.F.Files.faults c.grammar_of_files.new.files) c.in_err-checked.field-0.0 c.in_err-checked.ensures.refused)
+    (seen g.F.Files.content g.F.Files.faults c.grammar_of_files.new.files) _ _ c.in_err-checked.field-0.0 c.in_err-checked.ensures.refused
+    c.in_err-checked.ensures.calls)
 
 pub returns-clause-form : goal.returns-clause-form
 returns-clause-form g c =
@@ -19,4 +20,4 @@ pub returns-in_err-form-clause-refused : goal.returns-in_err-form-clause-refused
 returns-in_err-form-clause-refused g c =
     let p = err_from_is_err_and c.from_residual-in_err-form.result c.from_residual-in_err-form.ensures.1 in
     rw (p.1, p.2) (fails_memory (grammar_read c.args.grammar) (seen g.F.Files.content g.F.Files.faults c.args.files.now)
-    (seen g.F.Files.content g.F.Files.faults c.grammar_of_files.new.files) c.in_ok-checked.ensures.quiet)
+    (seen g.F.Files.content g.F.Files.faults c.grammar_of_files.new.files) _ _ c.in_ok-checked.ensures.quiet c.in_ok-checked.ensures.read)
