@@ -1,12 +1,17 @@
 -- How the steps of `reduce` end it.
-use Rattle.std.proofs.Common.{◌≡◌, inl, inr, ℕ, List, [], drop, Option, Some, None, IsSome, refl, sym, ap, ◌∙◌, subst, ⊎_elim, Result, Ok, Err, MatchResult}
+use Rattle.std.proofs.Common.{◌≡◌, inl, inr, ℕ, List, [], ◌∷◌, drop, Option, Some, None}
+use Rattle.std.proofs.Common.{IsSome, refl, sym, ap, ◌∙◌, subst, ⊎_elim, Result, Ok, Err, MatchResult}
 use Rattle.std.proofs.Common.{string_bytes, unwrap_or}
 use Rattle.std.specs.Global.{Vec}
 use Rattle.faults.specs.Count.{Rose}
+use Rattle.faults.specs.Memory.{ran_out}
 use Rattle.reduce_core.specs.Reduction.{Admits}
 use Rattle.line_guard.specs.MustStay.{Stays, stays_admit}
 use Rattle.command_reduce_calls.specs.Stays.{AcceptsStart}
 use Rattle.edge_io.specs.Files.{IsLonger, SameFiles}
+use Rattle.edge_io.specs.FileCalls.{WereMade, failed_call, good_call}
+use Rattle.edge_io.specs.declared.file_call.FileAction.TheVariants.{Write}
+use Rattle.edge_io.proofs.Lent.{made_then}
 use Rattle.script_gate_trait.specs.declared.gate.Verdict.{Verdict}
 use Rattle.reduce_trees_input.specs.Laws.{InputFaultOnce, InputsAreInLanguage}
 use Rattle.command_ends.specs.declared.status.NamedFile.{NamedFile}
@@ -34,27 +39,28 @@ use Rattle.run_gated.specs.Run.{Run}
 use Rattle.script_gate_trait.specs.declared.gate.GateFault.{GateFault}
 use Rattle.script_gate_trait.specs.declared.gate.GateFault.TheVariants.{Failed as GateFailed, Memory as GateMemory}
 use Rattle.command_reduce.specs.Reduce.{GateUnopened, IsHistoryWith, ProblemAccepted, RecordsAreSound, ReduceEnds, Reduces, ReducesTo, problem_in}
-use Rattle.command_reduce.specs.Reduce.{IsFileReached, IsResumeReached, admits_of, path_of_file}
+use Rattle.command_reduce.specs.Reduce.{IsFileReached, IsResumeReached, admits_of, path_of_file, read_paths}
 use Rattle.command_reduce.specs.Resume.{IsKnownOf}
 use Rattle.command_reduce.specs.inner.Resume.{IsFaultOf, ResumeFails, ResumeRefused}
 use Rattle.command_reduce.specs.inner.Reduce.{Inside, ReduceFails, ReduceReports, ReduceSteps, beside}
 use Rattle.command_reduce_calls.specs.Journal.{JournalSoFar, JournalWhole}
-use Rattle.command_reduce.specs.inner.Read.{AcceptFails, StaysRefused, admits_read, stays_read}
+use Rattle.command_reduce.specs.inner.Read.{AcceptCalls, AcceptFails, StaysRefused, admits_read, stays_read}
 use Rattle.command_reduce.specs.inner.Run.{IsSoundStarted, JournalAfter, StartLeaves, Unopened}
-use Rattle.command_reduce_calls.specs.Calls.{WriteEnds}
+use Rattle.command_reduce_calls.specs.Calls.{WriteEnds, result_makes}
 use Rattle.command_reduce.specs.Reduce.ReduceEnds.{done, memory, unread, unwritten, faulty, no_token, unparsed}
 use Rattle.command_reduce.specs.Reduce.ReduceEnds.{uninteresting, unput, keep_missing, beyond, too_long, other_start, no_head, bad_event, script, journal}
 use Rattle.run_gated.specs.declared.fault.RunFault.{RunFault}
 use Rattle.run_gated.specs.declared.fault.RunFault.TheVariants as run_fault
 use Rattle.command_ends.specs.Status.{EndsRefused, EndsWithAnswer, HasJournalLine, ending_of, ending_of_run}
-use Rattle.command_words.specs.Commands.{ReduceOptions}
-use Rattle.command_ends.specs.World.{AreQuiet, FilesKept, fault_counts_of, logs_of, IsQuiet, PutsLine, NotReached, SeenFiles, SeenGate, SeenOut}
-use Rattle.command_ends.specs.World.{WasRead, journal_limit}
+use Rattle.command_words.specs.Commands.{ModeOptions, ReduceOptions}
+use Rattle.command_ends.specs.World.{AreQuiet, FilesKept, FilesRead, fault_counts_of, logs_of, IsQuiet, PutsLine, NotReached, SeenCalls, SeenFiles, SeenGate}
+use Rattle.command_ends.specs.World.{SeenOut, SomeFilesRead, WasRead, WereRead, journal_limit, reads_of}
+use Rattle.command_ends.proofs.Lent.{all_some, read_then_none}
 use Rattle.command_reduce.proofs.MustEndLemmas.{must_end}
 use Rattle.command_reduce.proofs.ProblemLemmas.{accepted_as, start_as, stays_as}
 use Rattle.command_reduce.proofs.UsedLemmas.{none_sound}
 use Rattle.command_reduce.proofs.LentLemmas.{AreFirst, all_quiet, one_failed, one_unopened, sound_among}
-use Rattle.command_problem.specs.Problem.{IsReached, ProblemRead, limit_of, path_in}
+use Rattle.command_problem.specs.Problem.{IsReached, ProblemRead, grammar_paths_in, limit_of, path_in, problem_paths}
 use Rattle.command_problem.specs.Read.{ProblemFails}
 use Rattle.command_problem.proofs.Lent.{any_problem, problem_map}
 
@@ -88,28 +94,35 @@ module _ (options : ReduceOptions) (may_say : List ℕ → Verdict → Type 0) (
   file_longer named.Result is longer = longer
   file_longer named.Journal is longer = absurd is
 
-  problem_at : (refusal : Refusal) → ProblemFails (problem_in options) old.files new.files refusal → ReduceFails options known history old new refusal
-  problem_at Memory why = λ out out' put. memory (record { same = same; quiet = why }) (λ alone. gates_quiet) so_far put
-  problem_at (CannotRead file) why = λ out out' put. unread file (file_reached file why.0) why.1 same (untouched out out') put
-  problem_at (TooLong file) why = λ out out' put.
-      too_long file (file_reached file why.0) (file_longer file why.0 why.1) (record { same = same; quiet = why.2 }) (untouched out out') put
-  problem_at (Grammar line) why = λ out out' put.
-      faulty why.0 why.2.0 why.1 why.2.1 (record { same = same; quiet = why.2.3 }) (untouched out out') (subst (λ l. PutsLine l out out') why.2.2 put)
-  problem_at (Uncut line) why = λ out out' put.
-      no_token why.0 why.1 why.2 why.3 why.4 (record { same = same; quiet = why.6 }) (untouched out out') (subst (λ l. PutsLine l out out') why.5 put)
-  problem_at NoParse why = λ out out' put. unparsed why.0 why.1 why.2 (record { same = same; quiet = why.3 }) (untouched out out') put
-  problem_at _ why = absurd why
+  problem_at : (refusal : Refusal) → ProblemFails (problem_in options) old.files new.files refusal → AcceptCalls options old.calls new.calls refusal
+      → ReduceFails options known history old new refusal
+  problem_at (Memory _) why calls = λ out out' put. memory (record { same = same; quiet = why; reads = calls }) (λ alone. gates_quiet) so_far put
+  problem_at (CannotRead file) why calls = λ out out' put. unread file (file_reached file why.0) why.1 calls same (untouched out out') put
+  problem_at (TooLong file) why calls = λ out out' put.
+      too_long file (file_reached file why.0) (file_longer file why.0 why.1) (record { same = same; quiet = why.2; reads = calls }) (untouched out out') put
+  problem_at (Grammar line) why calls = λ out out' put.
+      faulty why.0 why.2.0 why.1 why.2.1
+      (record { same = same; quiet = why.2.3; reads = subst (λ (m : ModeOptions). WereRead (grammar_paths_in m) old.calls new.calls) why.1 calls })
+      (untouched out out') (subst (λ l. PutsLine l out out') why.2.2 put)
+  problem_at (Uncut line) why calls = λ out out' put.
+      no_token why.0 why.1 why.2 why.3 why.4 (record { same = same; quiet = why.6; reads = calls }) (untouched out out') (subst
+      (λ l. PutsLine l out out') why.5 put)
+  problem_at NoParse why calls = λ out out' put. unparsed why.0 why.1 why.2 (record { same = same; quiet = why.3; reads = calls }) (untouched out out') put
+  problem_at _ why calls = absurd why
 
   module _ (quiet : IsQuiet old.files new.files) where
-    kept : FilesKept old.files new.files
-    kept = record { same = same; quiet = quiet }
+    kept : WereRead (problem_paths (problem_in options)) old.calls new.calls → (out out' : SeenOut)
+        → FilesRead (problem_paths (problem_in options)) (beside old out) (beside new out')
+    kept calls out out' = record { same = same; quiet = quiet; reads = calls }
 
-    stays_at : (refusal : Refusal) → StaysRefused options old.files refusal → ReduceFails options known history old new refusal
-    stays_at Memory why = λ out out' put. memory kept (λ alone. gates_quiet) so_far put
-    stays_at (KeepMissing line) why = λ out out' put. keep_missing why.0 why.1 kept (untouched out out') (subst (λ l. PutsLine l out out') why.2 put)
-    stays_at (BeyondLines line) why =
-        λ out out' put. beyond why.0 why.1 why.2 kept (untouched out out') (subst (λ l. PutsLine l out out') why.3 put)
-    stays_at _ why = absurd why
+    stays_at : (refusal : Refusal) → StaysRefused options old.files refusal → AcceptCalls options old.calls new.calls refusal
+        → ReduceFails options known history old new refusal
+    stays_at (Memory _) why calls = λ out out' put. memory (record { same = same; quiet = quiet; reads = calls }) (λ alone. gates_quiet) so_far put
+    stays_at (KeepMissing line) why calls = λ out out' put. keep_missing why.0 why.1 (kept calls out out') (untouched out out') (subst
+        (λ l. PutsLine l out out') why.2 put)
+    stays_at (BeyondLines line) why calls =
+        λ out out' put. beyond why.0 why.1 why.2 (kept calls out out') (untouched out out') (subst (λ l. PutsLine l out out') why.3 put)
+    stays_at _ why calls = absurd why
 
   -- a problem was accepted, but the journal that is to be resumed isn't one of it
   module _ (path : List ℕ) (is_named : options.resume ≡ Some path) (start : Digest)
@@ -122,39 +135,42 @@ module _ (options : ReduceOptions) (may_say : List ℕ → Verdict → Type 0) (
     )
 
     bad_at : (text : List ℕ) (fault : JournalFault) → WasRead journal_limit (old.files.shown path) (IsFaultOf fault) → HasJournalLine fault text
-        → IsQuiet old.files new.files → (out out' : SeenOut) → PutsLine text out out' → ReduceEnds options known history (beside old out) (beside new out') 14
-    bad_at text journal_fault.BadHead read is quiet = λ out out' put.
+        → IsQuiet old.files new.files → WereRead (read_paths options) old.calls new.calls → (out out' : SeenOut) → PutsLine text out out'
+        → ReduceEnds options known history (beside old out) (beside new out') 14
+    bad_at text journal_fault.BadHead read is quiet calls = λ out out' put.
         no_head path is_named reached.1 (record { bytes = read.bytes; read = read.read; within = read.within; holds = read.holds })
-        (record { same = same; quiet = quiet }) (untouched out out') (subst (λ l. PutsLine l out out') is put)
-    bad_at text (journal_fault.BadRecord offset) read is quiet = λ out out' put.
+        (record { same = same; quiet = quiet; reads = calls }) (untouched out out') (subst (λ l. PutsLine l out out') is put)
+    bad_at text (journal_fault.BadRecord offset) read is quiet calls = λ out out' put.
         bad_event path offset is_named reached.1 (record { bytes = read.bytes; read = read.read; within = read.within; holds = read.holds })
-        (record { same = same; quiet = quiet }) (untouched out out') (subst (λ l. PutsLine l out out') is put)
-    bad_at text journal_fault.Memory read is quiet = absurd is
+        (record { same = same; quiet = quiet; reads = calls }) (untouched out out') (subst (λ l. PutsLine l out out') is put)
+    bad_at text (journal_fault.Memory _) read is quiet calls = absurd is
 
-    resume_at : (refusal : Refusal) → ResumeFails path start old.files new.files refusal → ReduceFails options known history old new refusal
-    resume_at Memory why = λ out out' put. memory (record { same = same; quiet = why }) (λ alone. gates_quiet) so_far put
-    resume_at (CannotRead file) why = λ out out' put.
-        unread file (subst (λ f. IsFileReached options f old.files) (sym why.0) reached) why.1 same (untouched out out') put
-    resume_at (TooLong file) why = λ out out' put.
+    resume_at : (refusal : Refusal) → ResumeFails path start old.files new.files refusal → AcceptCalls options old.calls new.calls refusal
+        → ReduceFails options known history old new refusal
+    resume_at (Memory _) why calls = λ out out' put. memory (record { same = same; quiet = why; reads = calls }) (λ alone. gates_quiet) so_far put
+    resume_at (CannotRead file) why calls = λ out out' put.
+        unread file (subst (λ f. IsFileReached options f old.files) (sym why.0) reached) why.1 calls same (untouched out out') put
+    resume_at (TooLong file) why calls = λ out out' put.
         too_long file (subst (λ f. IsFileReached options f old.files) (sym why.0) reached)
         (subst (λ f. IsLonger (limit_of f) (old.files.shown (path_of_file options f))) (sym why.0)
         (subst (λ resume. IsLonger journal_limit (old.files.shown (unwrap_or resume []))) (sym is_named) why.1))
-        (record { same = same; quiet = why.2 }) (untouched out out') put
-    resume_at (OtherStart line) why = λ out out' put.
-        other_start path why.0 start is_named accepted why.1 (record { same = same; quiet = why.3 }) (untouched out out')
+        (record { same = same; quiet = why.2; reads = calls }) (untouched out out') put
+    resume_at (OtherStart line) why calls = λ out out' put.
+        other_start path why.0 start is_named accepted why.1 (record { same = same; quiet = why.3; reads = calls }) (untouched out out')
         (subst (λ l. PutsLine l out out') why.2 put)
-    resume_at (BadJournal line) why = bad_at (string_bytes line) why.0 why.1 why.2 why.3
-    resume_at _ why = absurd why
+    resume_at (BadJournal line) why calls = bad_at (string_bytes line) why.0 why.1 why.2 why.3 calls
+    resume_at _ why calls = absurd why
 
   resume_by : (resume : Option (List ℕ)) → options.resume ≡ resume → (refusal : Refusal) (start : Digest)
       → ProblemAccepted options old.files (λ problem. IsDigestOf (start_text problem) start) → ResumeRefused resume start old.files new.files refusal
-      → ReduceFails options known history old new refusal
-  resume_by None is refusal start accepted why = absurd why
-  resume_by (Some path) is refusal start accepted why = resume_at path is start accepted refusal why
+      → AcceptCalls options old.calls new.calls refusal → ReduceFails options known history old new refusal
+  resume_by None is refusal start accepted why calls = absurd why
+  resume_by (Some path) is refusal start accepted why calls = resume_at path is start accepted refusal why calls
 
   -- there is no problem, or it wasn't accepted, or it can't go on from the journal
-  pub stops_accept : (refusal : Refusal) → AcceptFails options old.files new.files refusal → ReduceSteps options may_say history old new (Err refusal)
-  stops_accept refusal why = record {
+  pub stops_accept : (refusal : Refusal) → AcceptFails options old.files new.files refusal → AcceptCalls options old.calls new.calls refusal
+      → ReduceSteps options may_say history old new (Err refusal)
+  stops_accept refusal why calls = record {
     known = known;
     sound =
         none_sound options may_say known.kept history (logs_of old.gates) (logs_of new.gates) old.journal new.journal none (ap logs_of same_gates)
@@ -162,8 +178,9 @@ module _ (options : ReduceOptions) (may_say : List ℕ → Verdict → Type 0) (
     of_input = λ out out'. inl (untouched out out', empty);
     others = ap (drop options.jobs) same_gates;
     ends =
-        ⊎_elim (λ problem. problem_at refusal problem)
-        (λ later. ⊎_elim (λ stays. stays_at stays.0 refusal stays.1) (λ resume. resume_by options.resume refl refusal resume.0 resume.1 resume.2) later) why;
+        ⊎_elim (λ problem. problem_at refusal problem calls)
+        (λ later. ⊎_elim (λ stays. stays_at stays.0 refusal stays.1 calls)
+        (λ resume. resume_by options.resume refl refusal resume.0 resume.1 resume.2 calls) later) why;
   }
 
 -- a problem was accepted, and its run ended, which used these gates
@@ -210,52 +227,68 @@ module _ (options : ReduceOptions) (may_say : List ℕ → Verdict → Type 0) (
       IsKnownOf options old.files (start_text problem) known
       × (options.jobs ≡ 1 → IsUnfinished (verdict_in known.kept) (admits_of options problem) problem history)
 
+  -- all files were read, or some
+  files_read : FilesKept old.files new.files → WereRead (read_paths options) old.calls new.calls → (out out' : SeenOut)
+      → FilesRead (read_paths options) (beside old out) (beside new out')
+  files_read kept read out out' = record { same = kept.same; quiet = kept.quiet; reads = read }
+
+  some_read : FilesKept old.files new.files → WereRead (read_paths options) old.calls new.calls → (out out' : SeenOut)
+      → SomeFilesRead (read_paths options) (beside old out) (beside new out')
+  some_read kept read out out' = record { same = kept.same; quiet = kept.quiet; reads = all_some (read_paths options) old.calls new.calls read }
+
   -- without a reduction
-  fault_at : (fault : RunFault) → FilesKept old.files new.files → ProblemAccepted options old.files (Fails fault)
+  fault_at : (fault : RunFault) → FilesKept old.files new.files → WereRead (read_paths options) old.calls new.calls
+      → ProblemAccepted options old.files (Fails fault)
       → JournalAfter {A = Reduced} options.jobs options.journal known.start (verdict_in known.kept) history old.journal new.journal (Err fault)
       → EndsBy (ending_of_run fault)
-  fault_at run_fault.Memory kept why ends = λ out out' put. memory kept (λ alone. all_quiet first ((some (Fails run_fault.Memory) why).1.1.1.1 alone)) ends put
-  fault_at run_fault.NotInteresting kept why ends = λ out out' put.
+  fault_at (run_fault.Memory _) kept read why ends =
+      λ out out' put. memory (some_read kept read out out') (λ alone. all_quiet first ((some (Fails (run_fault.Memory ran_out)) why).1.1.1.1 alone)) ends put
+  fault_at run_fault.NotInteresting kept read why ends = λ out out' put.
       uninteresting
       (but (Fails run_fault.NotInteresting) (λ problem. IsKnownOf options old.files (start_text problem) known
       × IsRefused options.jobs (verdict_in known.kept) (admits_of options problem) problem history)
-      (λ problem is. (is.0, is.1.0)) why) kept
+      (λ problem is. (is.0, is.1.0)) why) (files_read kept read out out')
       (all_quiet first (some (Fails run_fault.NotInteresting) why).1.1.1.1.gates) ends put
-  fault_at (run_fault.Script worker) kept why ends = λ out out' put.
+  fault_at (run_fault.Script worker) kept read why ends = λ out out' put.
       let failed = one_failed first worker (some (Fails (run_fault.Script worker)) why).1.1.1.0 in
-      script worker failed.0 failed.1 (but (Fails (run_fault.Script worker)) Waits (λ problem is. (is.0, is.1.2)) why) kept (inl ends) put
-  fault_at run_fault.Journal kept why ends =
+      script worker failed.0 failed.1 (but (Fails (run_fault.Script worker)) Waits (λ problem is. (is.0, is.1.2)) why)
+      (files_read kept read out out') (inl ends) put
+  fault_at run_fault.Journal kept read why ends =
       λ out out' put. journal (some (Fails run_fault.Journal) why).1.1.1.0 are ends
-      (λ alone. all_quiet first ((some (Fails run_fault.Journal) why).1.1.1.1 alone)) kept put
+      (λ alone. all_quiet first ((some (Fails run_fault.Journal) why).1.1.1.1 alone)) (files_read kept read out out') put
 
   -- without an opened gate
-  unopened_at : (worker : ℕ) (fault : GateFault) → FilesKept old.files new.files → ProblemAccepted options old.files (Fails (fault_of worker fault))
+  unopened_at : (worker : ℕ) (fault : GateFault) → FilesKept old.files new.files → WereRead (read_paths options) old.calls new.calls
+      → ProblemAccepted options old.files (Fails (fault_of worker fault))
       → GateUnopened options history worker (logs_of part) (logs_of part') old.journal new.journal → EndsBy (ending_of_run (fault_of worker fault))
-  unopened_at worker GateFailed kept why un = λ out out' put.
+  unopened_at worker GateFailed kept read why un = λ out out' put.
       let failed = one_failed first worker (some (Fails (run_fault.Script worker)) why).1.1.1.0 in
-      script worker failed.0 failed.1 (but (Fails (run_fault.Script worker)) Waits (λ problem is. (is.0, is.1.2)) why) kept
+      script worker failed.0 failed.1 (but (Fails (run_fault.Script worker)) Waits (λ problem is. (is.0, is.1.2)) why) (files_read kept read out out')
       (inr (one_unopened first history worker old.journal new.journal failed.0 un)) put
-  unopened_at worker GateMemory kept why un =
-      λ out out' put. memory kept (λ alone. all_quiet first ((some (Fails run_fault.Memory) why).1.1.1.1 alone)) (JournalSoFar.untouched un.untouched) put
+  unopened_at worker (GateMemory _) kept read why un =
+      λ out out' put. memory (some_read kept read out out') (λ alone. all_quiet first ((some (Fails (run_fault.Memory ran_out)) why).1.1.1.1 alone))
+      (JournalSoFar.untouched un.untouched) put
 
   all_sound : RecordsAreSound options may_say known.kept history (logs_of old.gates) (logs_of new.gates) old.journal new.journal
   all_sound = sound_among first may_say known.kept history old.journal new.journal sound
 
   stops_run : (fault : RunFault) (refusal : Refusal) → ending_of refusal ≡ ending_of_run fault → FilesKept old.files new.files
+      → WereRead (read_paths options) old.calls new.calls
       → ProblemAccepted options old.files (Fails fault)
       → JournalAfter {A = Reduced} options.jobs options.journal known.start (verdict_in known.kept) history old.journal new.journal (Err fault)
       → ReduceSteps options may_say history old new (Err refusal)
-  stops_run fault refusal same kept why ends =
+  stops_run fault refusal same kept read why ends =
       record {
         known = known;
         sound = all_sound;
         of_input = λ out out'. inr are;
         others = first.others;
-        ends = subst EndsBy (sym same) (fault_at fault kept why ends);
+        ends = subst EndsBy (sym same) (fault_at fault kept read why ends);
       }
 
   -- with one, whose result was written or wasn't
-  module _ (read : SeenFiles) (reduced : Reduced) (same : SameFiles old.files.shown read.shown) (quiet : IsQuiet old.files read)
+  module _ (read : SeenFiles) (mid : SeenCalls) (reduced : Reduced) (same : SameFiles old.files.shown read.shown) (quiet : IsQuiet old.files read)
+      (were_read : WereRead (read_paths options) old.calls mid)
       (gates_quiet : AreQuiet old.gates new.gates) (whole : JournalWhole options.journal known.start history old.journal new.journal)
       (reduces : ProblemAccepted options old.files (Comes reduced)) where
     reduces_to : (report : List ℕ) → report ≡ report_text reduced.counts → ReducesTo options old.files known history reduced.text.items report
@@ -268,54 +301,69 @@ module _ (options : ReduceOptions) (may_say : List ℕ → Verdict → Type 0) (
         (λ problem from. (from.0.0, reduced.counts, from.1, is, from.0.1)) reduces
 
     write_at : (outcome : Result (Vec ℕ) Refusal) → WriteEnds options.output read new.files (Ok reduced) outcome
+        → WereMade (result_makes options.output (Ok reduced) outcome) mid new.calls
         → MatchResult outcome (λ report. ReduceReports options known history old new report.items)
         (λ refusal. ReduceFails options known history old new refusal)
-    write_at (Ok report) ends = λ out out'. record {
+    write_at (Ok report) ends made = λ out out'. record {
       reduced = record { text = reduced.text.items; reduces = reduces_to report.items ends.0; written = ends.1 };
       others = λ name other. ends.2 name other ∙ same name;
+      calls = made_then (reads_of (read_paths options)) (good_call Write options.output ∷ []) old.calls mid new.calls were_read made;
       files_quiet = ends.3 ∙ quiet;
       gates_quiet = gates_quiet;
       journal = whole;
     }
-    write_at (Err Memory) ends =
-        λ out out' put. memory (record { same = λ name. ends.same name ∙ same name; quiet = ends.quiet ∙ quiet }) (λ alone. gates_quiet)
+    write_at (Err (Memory _)) ends made =
+        λ out out' put. memory
+        (record {
+          same = λ name. ends.same name ∙ same name;
+          quiet = ends.quiet ∙ quiet;
+          reads = all_some (read_paths options) old.calls new.calls (read_then_none (read_paths options) old.calls mid new.calls were_read made);
+        }) (λ alone. gates_quiet)
         (JournalSoFar.whole whole) put
-    write_at (Err CannotWrite) ends = λ out out' put.
-        unwritten (subst (λ count. Rose count new.files.faults) quiet ends.0) reduced.text.items (report_text reduced.counts)
+    write_at (Err CannotWrite) ends made = λ out out' put.
+        unwritten (subst (λ count. Rose count new.files.faults) quiet ends.0)
+        (made_then (reads_of (read_paths options))
+        (failed_call Write options.output ∷ []) old.calls mid new.calls were_read made) reduced.text.items (report_text reduced.counts)
         (reduces_to (report_text reduced.counts) refl) (λ name other. ends.1 name other ∙ same name) gates_quiet whole put
-    write_at (Err _) ends = absurd ends
+    write_at (Err _) ends made = absurd ends
 
     pub stops_write : (outcome : Result (Vec ℕ) Refusal) → WriteEnds options.output read new.files (Ok reduced) outcome
+        → WereMade (result_makes options.output (Ok reduced) outcome) mid new.calls
         → ReduceSteps options may_say history old new outcome
-    stops_write outcome ends =
-        record { known = known; sound = all_sound; of_input = λ out out'. inr are; others = first.others; ends = write_at outcome ends }
+    stops_write outcome ends made =
+        record { known = known; sound = all_sound; of_input = λ out out'. inr are; others = first.others; ends = write_at outcome ends made }
 
   -- whatever the run came to
-  pub stops_ran : (read : SeenFiles) → SameFiles old.files.shown read.shown → IsQuiet old.files read → (ran : Result Reduced RunFault)
+  pub stops_ran : (read : SeenFiles) (mid : SeenCalls) → SameFiles old.files.shown read.shown → IsQuiet old.files read
+      → WereRead (read_paths options) old.calls mid → (ran : Result Reduced RunFault)
       → ProblemAccepted options old.files
       (λ problem. IsHistoryWith options old.files known history problem × ProblemEnds (admits_of options problem) problem (run_to ran) ran)
       → JournalAfter options.jobs options.journal known.start (verdict_in known.kept) history old.journal new.journal ran → (outcome : Result (Vec ℕ) Refusal)
-      → WriteEnds options.output read new.files ran outcome → ReduceSteps options may_say history old new outcome
-  stops_ran read same quiet (Ok reduced) ends whole outcome writes =
+      → WriteEnds options.output read new.files ran outcome → WereMade (result_makes options.output ran outcome) mid new.calls
+      → ReduceSteps options may_say history old new outcome
+  stops_ran read mid same quiet were_read (Ok reduced) ends whole outcome writes made =
       let P : Problem → Type 0 =
       λ problem. IsHistoryWith options old.files known history problem
       × (ReducesFrom options.jobs (verdict_in known.kept) (admits_of options problem) problem history reduced.text.items reduced.counts
       × NoneFailed (run_to (Ok reduced)).before (run_to (Ok reduced)).after) in
-      stops_write read reduced same quiet (all_quiet first (some P ends).1.1.1.1.gates) whole
-      (but P (Comes reduced) (λ problem is. (is.0, is.1.0)) ends) outcome writes
-  stops_ran read same quiet (Err fault) ends after outcome writes =
+      stops_write read mid reduced same quiet were_read (all_quiet first (some P ends).1.1.1.1.gates) whole
+      (but P (Comes reduced) (λ problem is. (is.0, is.1.0)) ends) outcome writes made
+  stops_ran read mid same quiet were_read (Err fault) ends after outcome writes made =
       subst (λ (o : Result (Vec ℕ) Refusal). ReduceSteps options may_say history old new o) (sym writes.0.1)
       (stops_run fault writes.0.0 writes.0.2 (subst (FilesKept old.files) (sym writes.1) (record { same = same; quiet = quiet }))
+      (read_then_none (read_paths options) old.calls mid new.calls were_read made)
       (but (λ problem. IsHistoryWith options old.files known history problem × RunFails (admits_of options problem) problem (run_to (Err fault)) fault)
       (Fails fault) (λ problem is. (is.0.0, is.1)) ends) after)
 
   -- a gate wasn't opened
-  pub stops_unopened : (read : SeenFiles) → SameFiles old.files.shown read.shown → IsQuiet old.files read → (ran : Result Reduced RunFault)
+  pub stops_unopened : (read : SeenFiles) (mid : SeenCalls) → SameFiles old.files.shown read.shown → IsQuiet old.files read
+      → WereRead (read_paths options) old.calls mid → (ran : Result Reduced RunFault)
       → ProblemAccepted options old.files
       (λ problem. IsKnownOf options old.files (start_text problem) known × ProblemEnds (admits_of options problem) problem (run_to ran) ran)
       → Unopened options history (logs_of part) (logs_of part') old.journal new.journal ran → (outcome : Result (Vec ℕ) Refusal)
-      → WriteEnds options.output read new.files ran outcome → ReduceSteps options may_say history old new outcome
-  stops_unopened read same quiet ran ends un outcome writes =
+      → WriteEnds options.output read new.files ran outcome → WereMade (result_makes options.output ran outcome) mid new.calls
+      → ReduceSteps options may_say history old new outcome
+  stops_unopened read mid same quiet were_read ran ends un outcome writes made =
       let answer : Result Reduced RunFault = Err (fault_of un.worker un.fault) in
       let why : ProblemAccepted options old.files (Fails (fault_of un.worker un.fault)) =
       subst
@@ -324,6 +372,8 @@ module _ (options : ReduceOptions) (may_say : List ℕ → Verdict → Type 0) (
       un.answer ends in
       let wrote : WriteEnds options.output read new.files answer outcome =
       subst (λ (r : Result Reduced RunFault). WriteEnds options.output read new.files r outcome) un.answer writes in
+      let none : WereMade [] mid new.calls =
+      subst (λ (r : Result Reduced RunFault). WereMade (result_makes options.output r outcome) mid new.calls) un.answer made in
       subst (λ (o : Result (Vec ℕ) Refusal). ReduceSteps options may_say history old new o) (sym wrote.0.1) (record {
         known = known;
         sound = all_sound;
@@ -331,7 +381,8 @@ module _ (options : ReduceOptions) (may_say : List ℕ → Verdict → Type 0) (
         others = first.others;
         ends =
             subst EndsBy (sym wrote.0.2) (unopened_at un.worker un.fault
-            (subst (FilesKept old.files) (sym wrote.1) (record { same = same; quiet = quiet })) why un.left);
+            (subst (FilesKept old.files) (sym wrote.1) (record { same = same; quiet = quiet }))
+            (read_then_none (read_paths options) old.calls mid new.calls were_read none) why un.left);
       })
 
 -- what was known before a run
@@ -339,20 +390,22 @@ abbrev pub known_of : Run → Known
 known_of run = record { start = run.start; kept = run.kept }
 
 -- the steps of a problem that was read and accepted, of which this must stay, and whose run is this
-pub steps_end : (options : ReduceOptions) (may_say : List ℕ → Verdict → Type 0) (run : Run) (files files' : SeenFiles) (gates gates' : List SeenGate)
-    (read : SeenFiles) (problem : ReadProblem) (stays : Stays) (outcome : Result (Vec ℕ) Refusal)
+pub steps_end : (options : ReduceOptions) (may_say : List ℕ → Verdict → Type 0) (run : Run) (files files' : SeenFiles) (calls calls' : SeenCalls)
+    (gates gates' : List SeenGate)
+    (read : SeenFiles) (mid : SeenCalls) (problem : ReadProblem) (stays : Stays) (outcome : Result (Vec ℕ) Refusal)
     → AreFirst options run.before.gates run.after.gates gates gates' → options.jobs ≡ run.workers
     → ProblemRead (problem_in options) files (IsReadAs (admits_read options problem) problem) → stays ≡ stays_read options problem
     → AcceptsStart options (start_read problem)
-    → SameFiles files.shown read.shown → IsQuiet files read
+    → SameFiles files.shown read.shown → IsQuiet files read → WereRead (read_paths options) calls mid
     → IsKnownOf options files (start_read problem) (known_of run) → IsSoundStarted options may_say run
     → ((one : Problem) → IsReadAs (stays_admit stays) problem one → IsRunOf (stays_admit stays) one run)
-    → WriteEnds options.output read files' run.outcome outcome
-    → ReduceSteps options may_say run.history (record { files = files; gates = gates; journal = run.before.journal })
-    (record { files = files'; gates = gates'; journal = run.after.journal }) outcome
-steps_end options may_say run files files' gates gates' read problem stays outcome first jobs was these all same quiet is_known sound runs writes =
-    let old : Inside = record { files = files; gates = gates; journal = run.before.journal } in
-    let new : Inside = record { files = files'; gates = gates'; journal = run.after.journal } in
+    → WriteEnds options.output read files' run.outcome outcome → WereMade (result_makes options.output run.outcome outcome) mid calls'
+    → ReduceSteps options may_say run.history (record { files = files; calls = calls; gates = gates; journal = run.before.journal })
+    (record { files = files'; calls = calls'; gates = gates'; journal = run.after.journal }) outcome
+steps_end options may_say run files files' calls calls' gates gates' read mid problem stays outcome first jobs was these all same quiet were_read is_known sound
+    runs writes made =
+    let old : Inside = record { files = files; calls = calls; gates = gates; journal = run.before.journal } in
+    let new : Inside = record { files = files'; calls = calls'; gates = gates'; journal = run.after.journal } in
     let lent : Run = record run { workers = options.jobs } in
     let known : Known = known_of run in
     let guard : Admits = admits_read options problem in
@@ -376,10 +429,10 @@ steps_end options may_say run files files' gates gates' read problem stays outco
     let both : ProblemAccepted options files (λ one. Of one × ProblemEnds (admits_of options one) one lent run.outcome) =
     accepted_as options files guard problem (λ one. Of one × ProblemEnds (admits_of options one) one lent run.outcome) all
     (λ one is. ((known_at one is, (all_run one is).history), (all_run one is).ends)) was in
-    ⊎_elim (λ after. stops_ran options may_say known run.history old new run.before.gates run.after.gates first sound.records accepted read same quiet
-    run.outcome both after outcome writes)
-    (λ un. stops_unopened options may_say known run.history old new run.before.gates run.after.gates first sound.records accepted read same quiet
-    run.outcome ended un outcome writes) left
+    ⊎_elim (λ after. stops_ran options may_say known run.history old new run.before.gates run.after.gates first sound.records accepted read mid same quiet
+    were_read run.outcome both after outcome writes made)
+    (λ un. stops_unopened options may_say known run.history old new run.before.gates run.after.gates first sound.records accepted read mid same quiet
+    were_read run.outcome ended un outcome writes made) left
 
 -- the end of the command
 pub reduce_ends : InputFaultOnce → InputsAreInLanguage

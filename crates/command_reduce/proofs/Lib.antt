@@ -1,4 +1,6 @@
+mod CallLemmas
 mod DigestLemmas
+mod EarlyLemmas
 mod ProblemLemmas
 mod ReadLemmas
 mod ResumeLemmas

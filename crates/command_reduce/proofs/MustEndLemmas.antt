@@ -35,7 +35,7 @@ use Rattle.command_reduce.specs.Reduce.ReduceEnds.{done, memory, unread, unwritt
 use Rattle.command_reduce.specs.Reduce.ReduceEnds.{uninteresting, keep_missing, beyond, too_long, other_start, no_head, bad_event, script, journal}
 use Rattle.command_ends.specs.Status.{IsUncut}
 use Rattle.command_words.specs.Commands.{GrammarOptions, GrammarSource, ModeOptions, ReduceOptions}
-use Rattle.command_ends.specs.World.{FilesKept, IsOver, IsQuiet, IsShownWithin, NotReached, SeenJournal, WasRead, fault_counts_of, World, grammar_limit}
+use Rattle.command_ends.specs.World.{IsOver, IsQuiet, IsShownWithin, NotReached, SeenJournal, WasRead, fault_counts_of, World, grammar_limit}
 use Rattle.command_ends.specs.World.{input_limit, journal_limit}
 use Rattle.command_ends.proofs.Lent.{longer_not_missing, read_not_missing, read_not_over}
 use Rattle.command_problem.proofs.Lent.{any_problem, fault_is, fault_not_shown, faulty_not_shown, grammar_not_faulty, grammar_not_missing}
@@ -224,8 +224,8 @@ module _ (faults : InputFaultOnce) (languages : InputsAreInLanguage) (options : 
 
   must_end_bad : (path : List ℕ) (is_named : options.resume ≡ Some path) (read : ProblemAccepted options old.files (λ problem. Unit {0}))
       → WasRead journal_limit (old.files.shown path) (λ bytes. LacksHead bytes ⊎ ((offset : ℕ) × IsBadAt bytes offset))
-      → FilesKept old.files new.files → NotReached history old new → ReduceMustEnd options records old new 14
-  must_end_bad path is_named read bad files untouched = record {
+      → IsQuiet old.files new.files → NotReached history old new → ReduceMustEnd options records old new 14
+  must_end_bad path is_named read bad quiet untouched = record {
     grammar_over = λ g is over. absurd (grammar_not_over (problem_in options) old.files _ read g is over);
     grammar_missing = λ g is none. absurd (grammar_not_missing (problem_in options) old.files _ read g is none);
     lexer_over = λ g lexer is named over. absurd (no_lexer_over (problem_in options) old.files _ read g is lexer named over);
@@ -251,7 +251,7 @@ module _ (faults : InputFaultOnce) (languages : InputsAreInLanguage) (options : 
     complete = λ shown files_fine gate_fine journal_fine out_fine. absurd (bad_hides path is_named read bad shown);
     first_no = λ first_no. absurd (none_no records (ap records_of untouched.no_history) first_no);
     first_no_alone = λ alone first_no. absurd (none_no records (ap records_of untouched.no_history) first_no);
-    files_failed = λ failed. absurd (failed files.quiet);
+    files_failed = λ failed. absurd (failed quiet);
     gate_failed = λ failed. absurd (failed (ap fault_counts_of untouched.gates));
     gate_failed_alone = λ alone failed. absurd (failed (ap fault_counts_of untouched.gates));
     journal_failed = λ failed. absurd (failed (ap (λ (j : SeenJournal). j.faults) untouched.journal));
@@ -282,8 +282,8 @@ module _ (faults : InputFaultOnce) (languages : InputsAreInLanguage) (options : 
 
   -- where a file of the grammar is too long
   long_must_end : (file : NamedFile) → IsGrammarReached options.mode file old.files → IsLonger grammar_limit (old.files.shown (grammar_in options.mode file))
-      → FilesKept old.files new.files → NotReached history old new → ReduceMustEnd options records old new 10
-  long_must_end file reached longer files untouched = record {
+      → IsQuiet old.files new.files → NotReached history old new → ReduceMustEnd options records old new 10
+  long_must_end file reached longer quiet untouched = record {
     grammar_over = λ g is over. refl;
     grammar_missing = λ g is none. absurd (long_grammar_there (problem_in options) old.files g is file reached longer none);
     lexer_over = λ g lexer is named over. refl;
@@ -304,7 +304,7 @@ module _ (faults : InputFaultOnce) (languages : InputsAreInLanguage) (options : 
     complete = λ shown files_fine gate_fine journal_fine out_fine. absurd (long_grammar_not_shown (problem_in options) old.files file _ reached longer shown);
     first_no = λ first_no. absurd (none_no records (ap records_of untouched.no_history) first_no);
     first_no_alone = λ alone first_no. absurd (none_no records (ap records_of untouched.no_history) first_no);
-    files_failed = λ failed. absurd (failed files.quiet);
+    files_failed = λ failed. absurd (failed quiet);
     gate_failed = λ failed. absurd (failed (ap fault_counts_of untouched.gates));
     gate_failed_alone = λ alone failed. absurd (failed (ap fault_counts_of untouched.gates));
     journal_failed = λ failed. absurd (failed (ap (λ (j : SeenJournal). j.faults) untouched.journal));
@@ -397,7 +397,7 @@ module _ (faults : InputFaultOnce) (languages : InputsAreInLanguage) (options : 
     journal_failed = λ failed. absurd (failed (so_far_quiet _ _ kept));
     out_failed = λ failed is. cc is;
   }
-  must_end (unread file reached call_failed same untouched put) = record {
+  must_end (unread file reached call_failed calls same untouched put) = record {
     grammar_over = λ g is over. refl;
     grammar_missing = λ g is none. refl;
     lexer_over = λ g lexer is named over. refl;
@@ -424,7 +424,7 @@ module _ (faults : InputFaultOnce) (languages : InputsAreInLanguage) (options : 
     journal_failed = λ failed. absurd (failed (ap (λ (j : SeenJournal). j.faults) untouched.journal));
     out_failed = λ failed is. cc is;
   }
-  must_end (unwritten call_failed text report reduces others gates_quiet kept put) = record {
+  must_end (unwritten call_failed calls text report reduces others gates_quiet kept put) = record {
     grammar_over = λ g is over. absurd (grammar_not_over (problem_in options) old.files _ reduces g is over);
     grammar_missing = λ g is none. absurd (grammar_not_missing (problem_in options) old.files _ reduces g is none);
     lexer_over = λ g lexer is named over. absurd (no_lexer_over (problem_in options) old.files _ reduces g is lexer named over);
@@ -676,8 +676,8 @@ module _ (faults : InputFaultOnce) (languages : InputsAreInLanguage) (options : 
     journal_failed = λ failed. absurd (failed (ap (λ (j : SeenJournal). j.faults) untouched.journal));
     out_failed = λ failed is. cc is;
   }
-  must_end (too_long named.Grammar reached longer files untouched put) = long_must_end named.Grammar reached longer files untouched
-  must_end (too_long named.Lexer reached longer files untouched put) = long_must_end named.Lexer reached longer files untouched
+  must_end (too_long named.Grammar reached longer files untouched put) = long_must_end named.Grammar reached longer files.quiet untouched
+  must_end (too_long named.Lexer reached longer files untouched put) = long_must_end named.Lexer reached longer files.quiet untouched
   must_end (too_long named.Result reached longer files untouched put) = absurd reached
   must_end (too_long named.Journal reached longer files untouched put) =
       let there : options.resume ≡ Some (unwrap_or options.resume []) = path_there options.resume reached.0 in
@@ -747,9 +747,15 @@ module _ (faults : InputFaultOnce) (languages : InputsAreInLanguage) (options : 
     out_failed = λ failed is. cc is;
   }
   must_end (no_head path is_named read bad files untouched put) =
-      must_end_bad path is_named read (record { bytes = bad.bytes; read = bad.read; within = bad.within; holds = inl bad.holds }) files untouched
+      must_end_bad path is_named read (record { bytes = bad.bytes; read = bad.read; within = bad.within; holds = inl bad.holds }) files.quiet untouched
   must_end (bad_event path offset is_named read bad files untouched put) =
-      must_end_bad path is_named read (record { bytes = bad.bytes; read = bad.read; within = bad.within; holds = inr (offset, bad.holds) }) files untouched
+      must_end_bad path is_named read (record {
+        bytes = bad.bytes;
+        read = bad.read;
+        within = bad.within;
+        holds = inr
+            (offset, bad.holds);
+      }) files.quiet untouched
   must_end (script worker one_of call_failed read files kept put) = record {
     grammar_over = λ g is over. absurd (grammar_not_over (problem_in options) old.files _ read g is over);
     grammar_missing = λ g is none. absurd (grammar_not_missing (problem_in options) old.files _ read g is none);

@@ -33,7 +33,7 @@ module _ (name : List ℕ) (run : Run) (earlier : SeenJournal) (opened : run.bef
   fails_since guard problem NotInteresting why = (why.0, none_failed why.1)
   fails_since guard problem (Script worker) why = (why.0, why.1 ∙ quiet, why.2)
   fails_since guard problem Journal why = (subst (λ (n : ℕ). Rose n run.after.journal.faults) quiet why.0, why.1)
-  fails_since guard problem Memory why = (why.0 ∙ quiet, why.1)
+  fails_since guard problem (Memory _) why = (why.0 ∙ quiet, why.1)
 
   ends_since : (guard : Admits) (problem : Problem) (outcome : Result Reduced RunFault) → ProblemEnds guard problem run outcome
       → ProblemEnds guard problem whole_run outcome
@@ -58,7 +58,7 @@ module _ (name : List ℕ) (run : Run) (earlier : SeenJournal) (opened : run.bef
   journal_since (Err Journal) has =
       JournalBroken.broke_off
       (subst (λ (put : Option Put). HasPartBy run.workers run.start (verdict_in run.kept) run.history put run.after.journal.shown) opened has.0)
-  journal_since (Err Memory) has =
+  journal_since (Err (Memory _)) has =
       ⊎_elim (λ written. JournalSoFar.whole (whole_since (written, has.1)))
       (λ nothing. JournalSoFar.empty (record { no_history = nothing.0; opened = nothing.1 ∙ opened; quiet = has.1 ∙ quiet })) has.0
 
@@ -80,7 +80,7 @@ module _ (run : Run) (fault : RunFault) (none : run.history ≡ []) (out : run.o
   journal_unopened : (name : List ℕ) (fault : RunFault) → OpeningFails run.before.journal.faults run.after.journal.faults fault
       → JournalAfter {A = Reduced} run.workers name run.start (verdict_in run.kept) run.history run.before.journal run.after.journal (Err fault)
   journal_unopened name Journal why = JournalBroken.unopened none kept
-  journal_unopened name Memory why = JournalSoFar.untouched (record { no_history = none; same = λ i. record { shown = kept i; faults = why i } })
+  journal_unopened name (Memory _) why = JournalSoFar.untouched (record { no_history = none; same = λ i. record { shown = kept i; faults = why i } })
   journal_unopened name _ why = absurd why
 
   pub unopened_sound : (name : List ℕ) (may_say : List ℕ → Verdict → Type 0) → IsSoundOpened name may_say run
@@ -97,7 +97,7 @@ module _ (run : Run) (fault : RunFault) (none : run.history ≡ []) (out : run.o
   fails_unopened : (guard : Admits) (problem : Problem) (fault : RunFault) → OpeningFails run.before.journal.faults run.after.journal.faults fault
       → RunFails guard problem run fault
   fails_unopened guard problem Journal why = (why, λ _. quiet_gates)
-  fails_unopened guard problem Memory why = (why, λ _. quiet_gates)
+  fails_unopened guard problem (Memory _) why = (why, λ _. quiet_gates)
   fails_unopened guard problem _ why = absurd why
 
   pub unopened_run : (guard : Admits) (problem : Problem) → IsRunOf guard problem run

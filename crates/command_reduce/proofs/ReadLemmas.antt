@@ -46,7 +46,7 @@ tree_read options files trees mode one tree gives =
 -- why the text of what was read isn't accepted is why the problem isn't
 pub stays_refused : (options : ReduceOptions) (files : SeenFiles) (guard : Admits) (problem : ReadProblem) (refusal : Refusal)
     → ProblemRead (problem_in options) files (IsReadAs guard problem) → StaysFail options (start_read problem) refusal → StaysRefused options files refusal
-stays_refused options files guard problem Memory was why = tt
+stays_refused options files guard problem (Memory _) was why = tt
 stays_refused options files guard problem (KeepMissing line) was why = (
   why.0,
   problem_map (problem_in options) files (IsReadAs guard problem) (λ one. first_missing options.keeps (start_text one) ≡ Some why.0)

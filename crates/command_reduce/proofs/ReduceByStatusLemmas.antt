@@ -1,6 +1,7 @@
 -- Each status of `reduce`, from how it ends.
 use Rattle.std.proofs.Common.{◌≡◌, ◌≢◌, ◌≤◌, ◌⊎◌, inl, inr, ℕ, ◌+◌, List, [], ◌∷◌, Some, None, codes, ⊎_elim, refl, sym, ◌∙◌}
 use Rattle.std.proofs.lemmas.Bool.{false≢true}
+use Rattle.faults.specs.Memory.{ran_out}
 use Rattle.keep_guard.specs.Keep.{first_missing}
 use Rattle.edge_io.specs.Files.{IsLonger, SameFiles, SameOthers}
 use Rattle.verdict_table.specs.TableState.{verdict_in}
@@ -54,8 +55,8 @@ module _ (options : ReduceOptions) (known : Known) (history : History) (old new 
   is_of_lines (unparsed trees mode read files untouched put) is = absurd (cc (sym mode ∙ is))
   is_of_lines (done report writes put) is = refl
   is_of_lines (memory files gates_quiet kept put) is = refl
-  is_of_lines (unread file reached failed same untouched put) is = refl
-  is_of_lines (unwritten failed text report reduces others gates_quiet kept put) is = refl
+  is_of_lines (unread file reached failed calls same untouched put) is = refl
+  is_of_lines (unwritten failed calls text report reduces others gates_quiet kept put) is = refl
   is_of_lines (uninteresting read files gates_quiet kept put) is = refl
   is_of_lines (keep_missing index read files untouched put) is = refl
   is_of_lines (beyond last lines read files untouched put) is = refl
@@ -73,19 +74,19 @@ module _ (options : ReduceOptions) (known : Known) (history : History) (old new 
   is_done _ is = absurd (cc is)
 
   is_unread : {status : ℕ} → Ends status → status ≡ 3 → CallFailed old.files new.files
-  is_unread (unread file reached failed same untouched put) is = failed
+  is_unread (unread file reached failed calls same untouched put) is = failed
   is_unread _ is = absurd (cc is)
 
   is_unwritten : {status : ℕ} → Ends status → status ≡ 4
       → (CallFailed old.files new.files × PutsItsLine options old.files old.out new.out status)
       ⊎ ((report : List ℕ) × IsReduced options old.files new.files known history report × PutsPrefix report old.out new.out)
-  is_unwritten (unwritten failed text report reduces others gates_quiet kept put) is =
+  is_unwritten (unwritten failed calls text report reduces others gates_quiet kept put) is =
       inl (failed, ((file_of options old.files).0, (file_of options old.files).1, (CannotWrite, tt, refl, put)))
   is_unwritten (unput report writes put) is = inr (report, writes.reduced, put)
   is_unwritten _ is = absurd (cc is)
 
   is_tried : {status : ℕ} → Ends status → status ≡ 4 → (text : List ℕ) × (report : List ℕ) × ReducesTo options old.files known history text report
-  is_tried (unwritten failed text report reduces others gates_quiet kept put) is = (text, report, reduces)
+  is_tried (unwritten failed calls text report reduces others gates_quiet kept put) is = (text, report, reduces)
   is_tried (unput report writes put) is = (writes.reduced.text, report, writes.reduced.reduces)
   is_tried _ is = absurd (cc is)
 
@@ -104,7 +105,7 @@ module _ (options : ReduceOptions) (known : Known) (history : History) (old new 
   is_whole : {status : ℕ} → Ends status → IsOneOf (0 ∷ 4 ∷ 8 ∷ []) status → JournalWhole options.journal known.start history old.journal new.journal
   is_whole (done report writes put) is = writes.journal
   is_whole (unput report writes put) is = writes.journal
-  is_whole (unwritten failed text report reduces others gates_quiet kept put) is = kept
+  is_whole (unwritten failed calls text report reduces others gates_quiet kept put) is = kept
   is_whole (uninteresting read files gates_quiet kept put) is = kept
   is_whole _ is = absurd (false≢true is)
 
@@ -177,7 +178,7 @@ module _ (options : ReduceOptions) (known : Known) (history : History) (old new 
   is_unparsed _ is = absurd (cc is)
 
   is_early : {status : ℕ} → Ends status → ¬ IsOneOf (0 ∷ 1 ∷ 4 ∷ 8 ∷ 11 ∷ 12 ∷ []) status → NotReached history old new
-  is_early (unread file reached failed same untouched put) other = untouched
+  is_early (unread file reached failed calls same untouched put) other = untouched
   is_early (faulty trees text mode read files untouched put) other = untouched
   is_early (no_token trees fault mode uncut read files untouched put) other = untouched
   is_early (unparsed trees mode read files untouched put) other = untouched
@@ -192,8 +193,8 @@ module _ (options : ReduceOptions) (known : Known) (history : History) (old new 
   same_others : {status : ℕ} → Ends status → SameOthers old.files.shown new.files.shown options.output
   same_others (done report writes put) = writes.others
   same_others (memory files gates_quiet kept put) = λ name other. files.same name
-  same_others (unread file reached failed same untouched put) = λ name other. same name
-  same_others (unwritten failed text report reduces others gates_quiet kept put) = others
+  same_others (unread file reached failed calls same untouched put) = λ name other. same name
+  same_others (unwritten failed calls text report reduces others gates_quiet kept put) = others
   same_others (faulty trees text mode read files untouched put) = λ name other. files.same name
   same_others (no_token trees fault mode uncut read files untouched put) = λ name other. files.same name
   same_others (unparsed trees mode read files untouched put) = λ name other. files.same name
@@ -211,8 +212,8 @@ module _ (options : ReduceOptions) (known : Known) (history : History) (old new 
   same_files : {status : ℕ} → Ends status → status ≢ 0 → status ≢ 4 → SameFiles old.files.shown new.files.shown
   same_files (done report writes put) not_done not_written = absurd (not_done refl)
   same_files (memory files gates_quiet kept put) not_done not_written = files.same
-  same_files (unread file reached failed same untouched put) not_done not_written = same
-  same_files (unwritten failed text report reduces others gates_quiet kept put) not_done not_written = absurd (not_written refl)
+  same_files (unread file reached failed calls same untouched put) not_done not_written = same
+  same_files (unwritten failed calls text report reduces others gates_quiet kept put) not_done not_written = absurd (not_written refl)
   same_files (faulty trees text mode read files untouched put) not_done not_written = files.same
   same_files (no_token trees fault mode uncut read files untouched put) not_done not_written = files.same
   same_files (unparsed trees mode read files untouched put) not_done not_written = files.same
@@ -230,8 +231,8 @@ module _ (options : ReduceOptions) (known : Known) (history : History) (old new 
   is_one_of : {status : ℕ} → Ends status → IsOneOf (0 ∷ 1 ∷ 3 ∷ 4 ∷ 5 ∷ 6 ∷ 7 ∷ 8 ∷ 9 ∷ 10 ∷ 11 ∷ 12 ∷ 13 ∷ 14 ∷ 16 ∷ []) status
   is_one_of (done report writes put) = refl
   is_one_of (memory files gates_quiet kept put) = refl
-  is_one_of (unread file reached failed same untouched put) = refl
-  is_one_of (unwritten failed text report reduces others gates_quiet kept put) = refl
+  is_one_of (unread file reached failed calls same untouched put) = refl
+  is_one_of (unwritten failed calls text report reduces others gates_quiet kept put) = refl
   is_one_of (faulty trees text mode read files untouched put) = refl
   is_one_of (no_token trees fault mode uncut read files untouched put) = refl
   is_one_of (unparsed trees mode read files untouched put) = refl
@@ -253,8 +254,8 @@ module _ (options : ReduceOptions) (known : Known) (history : History) (old new 
   is_alone (bad_event path offset is_named read bad files untouched put) is = absurd (cc (sym is_named ∙ is))
   is_alone (done report writes put) is = refl
   is_alone (memory files gates_quiet kept put) is = refl
-  is_alone (unread file reached failed same untouched put) is = refl
-  is_alone (unwritten failed text report reduces others gates_quiet kept put) is = refl
+  is_alone (unread file reached failed calls same untouched put) is = refl
+  is_alone (unwritten failed calls text report reduces others gates_quiet kept put) is = refl
   is_alone (faulty trees text mode read files untouched put) is = refl
   is_alone (no_token trees fault mode uncut read files untouched put) is = refl
   is_alone (unparsed trees mode read files untouched put) is = refl
@@ -267,8 +268,8 @@ module _ (options : ReduceOptions) (known : Known) (history : History) (old new 
   is_alone (journal failed read broken gates_quiet files put) is = refl
 
   puts_line : {status : ℕ} → Ends status → IsOneOf (1 ∷ 3 ∷ 7 ∷ 8 ∷ 10 ∷ 12 ∷ []) status → PutsItsLine options old.files old.out new.out status
-  puts_line (memory files gates_quiet kept put) is = ((file_of options old.files).0, (file_of options old.files).1, (Memory, tt, refl, put))
-  puts_line (unread file reached failed same untouched put) is = (file, reached, (CannotRead file, refl, refl, put))
+  puts_line (memory files gates_quiet kept put) is = ((file_of options old.files).0, (file_of options old.files).1, (Memory ran_out, tt, refl, put))
+  puts_line (unread file reached failed calls same untouched put) is = (file, reached, (CannotRead file, refl, refl, put))
   puts_line (unparsed trees mode read files untouched put) is =
       ((file_of options old.files).0, (file_of options old.files).1, (NoParse, tt, refl, put))
   puts_line (uninteresting read files gates_quiet kept put) is =

@@ -149,7 +149,7 @@ none_named (Some x) not = absurd (not x refl)
 -- the file wasn't read
 pub unread_fails : (path : List ℕ) (start : Digest) (old new : SeenFiles) (refusal : Refusal)
     → ReadFails journal_limit named.Journal (old.shown path) old new refusal → ResumeFails path start old new refusal
-unread_fails path start old new refused.Memory why = why
+unread_fails path start old new (refused.Memory _) why = why
 unread_fails path start old new (refused.CannotRead file) why = why
 unread_fails path start old new (refused.TooLong file) why = why
 unread_fails path start old new _ why = absurd why
@@ -163,12 +163,12 @@ module _ (path : List ℕ) (start : Digest) (old new : SeenFiles) (quiet : IsQui
   pub bad_fails : (fault : JournalFault) (refusal : Refusal) → IsJournalRefusal fault refusal
       → (fault ≡ journal_fault.BadHead → LacksHead bytes) → ((offset : ℕ) → fault ≡ journal_fault.BadRecord offset → IsBadAt bytes offset)
       → ResumeFails path start old new refusal
-  bad_fails fault refused.Memory is no_head bad = quiet
+  bad_fails fault (refused.Memory _) is no_head bad = quiet
   bad_fails journal_fault.BadHead (refused.BadJournal line) is no_head bad =
       (journal_fault.BadHead, whole (IsFaultOf journal_fault.BadHead) (no_head refl), is, quiet)
   bad_fails (journal_fault.BadRecord offset) (refused.BadJournal line) is no_head bad =
       (journal_fault.BadRecord offset, whole (IsFaultOf (journal_fault.BadRecord offset)) (bad offset refl), is, quiet)
-  bad_fails journal_fault.Memory (refused.BadJournal line) is no_head bad = absurd is
+  bad_fails (journal_fault.Memory _) (refused.BadJournal line) is no_head bad = absurd is
   bad_fails fault _ is no_head bad = absurd is
 
   -- it is one
@@ -189,7 +189,7 @@ module _ (path : List ℕ) (start : Digest) (old new : SeenFiles) (quiet : IsQui
     is_kept kept is = whole (λ read. IsRead read (IsResumed start kept)) (read_as (IsResumed start kept) is)
 
     pub kept_fails : (refusal : Refusal) → KeptFails start journal.start refusal → ResumeFails path start old new refusal
-    kept_fails refused.Memory why = quiet
+    kept_fails (refused.Memory _) why = quiet
     kept_fails (refused.OtherStart line) why =
         (why.0, whole (λ read. IsRead read (IsOfOther start why.0)) (read_as (IsOfOther start why.0) (why.1, why.2)), why.3, quiet)
     kept_fails _ why = absurd why

@@ -19,7 +19,7 @@ use Rattle.command_reduce_calls.specs.Openings.{OpenFailed}
 module _ (guard : Admits) (problem : Problem) (run : Run) (none : run.history ≡ []) (quiet : IsQuiet run.before.journal run.after.journal) where
   -- why a gate wasn't opened is why there is no reduction
   run_open : (worker : ℕ) (fault : GateFault) → OpenFailed fault worker run.before.gates run.after.gates → RunFails guard problem run (fault_of worker fault)
-  run_open worker GateMemory why = (quiet, λ _. why)
+  run_open worker (GateMemory _) why = (quiet, λ _. why)
   run_open worker GateFailed why =
       (why, quiet, λ _. subst (IsUnfinished (verdict_in run.kept) guard problem) (sym none) (unfinished_without (verdict_in run.kept) guard problem))
 
@@ -44,7 +44,7 @@ module _ (guard : Admits) (problem : Problem) (run : Run) (workers : ℕ) (gates
   fails_since run_fault.NotInteresting why = (why.0, none_failed why.1)
   fails_since (run_fault.Script worker) why = (subst (λ (counts : List ℕ). RoseAt worker counts (fault_counts_of run.after.gates)) quiet why.0, why.1, why.2)
   fails_since run_fault.Journal why = (why.0, λ alone. why.1 alone ∙ quiet)
-  fails_since run_fault.Memory why = (why.0, λ alone. why.1 alone ∙ quiet)
+  fails_since (run_fault.Memory _) why = (why.0, λ alone. why.1 alone ∙ quiet)
 
   ends_since : (outcome : Result Reduced RunFault) → ProblemEnds guard problem run outcome → ProblemEnds guard problem (begun run.workers) outcome
   ends_since (Ok reduced) ends = (ends.0, none_failed ends.1)

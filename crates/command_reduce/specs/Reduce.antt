@@ -2,6 +2,7 @@
 use Rattle.std.specs.Prelude.{◌≡◌, ◌≢◌, ◌<◌, ◌≤◌, ◌⊎◌, ℕ, suc, ◌+◌, drop, length, map, sum, List, [], ◌∷◌}
 use Rattle.std.specs.Prelude.{◌++◌, true, false, Option, Some, None, IsSome, All, codes, option_map, unwrap_or}
 use Rattle.std.specs.List.{IsDistinct}
+use Rattle.std.specs.Option.{option_to_list}
 use Rattle.std.specs.Str.{bytes_eq}
 use Rattle.script_gate_trait.specs.declared.gate.Verdict.{Verdict}
 use Rattle.script_gate_trait.specs.declared.log.Log.{Log}
@@ -30,15 +31,17 @@ use Rattle.reduce_trees_input.specs.declared.fault.InputFault.TheVariants as inp
 use Rattle.command_ends.specs.declared.status.NamedFile.{NamedFile}
 use Rattle.command_ends.specs.declared.status.NamedFile.TheVariants as named
 use Rattle.command_grammar.specs.Grammar.{IsFaultIn, IsGrammarText}
-use Rattle.command_grammar.specs.Texts.{GrammarIsShown, GrammarWasRead}
+use Rattle.command_grammar.specs.Texts.{GrammarIsShown, GrammarWasRead, grammar_paths}
 use Rattle.run_problem.specs.Problem.{Problem, start_text}
 use Rattle.run_problem.specs.Ends.{AreOf, IsRefused, IsUnfinished, ReducesFrom}
 use Rattle.command_problem.specs.Problem.{InputHas, IsReached, IsShownFault, IsShownGrammar, IsShownProblem, ProblemOptions, ProblemRead, limit_of, path_in}
+use Rattle.command_problem.specs.Problem.{paths_before, problem_paths}
 use Rattle.command_ends.specs.Status.{IsOneOf, IsUncut, bad_record_text, beyond_text, fault_line, keep_text, other_start_text, script_text, word_for}
 use Rattle.command_words.specs.Commands.{GrammarOptions, ModeOptions, ReduceOptions}
 use Rattle.run_worker.specs.RunHistory.{with_all_asked}
 use Rattle.command_reduce_calls.specs.Openings.{opened_from, opened_log}
-use Rattle.command_ends.specs.World.{AnyGateFailed, AreQuiet, CallFailed, GateFailed, logs_of, FilesKept, IsOver, IsQuiet, NotReached, Puts}
+use Rattle.command_ends.specs.World.{AnyGateFailed, AreQuiet, CallFailed, FilesRead, GateFailed, IsOver, IsQuiet, NotReached, Puts, SomeFilesRead, logs_of}
+use Rattle.command_ends.specs.World.{UnreadAfter, UnwrittenAfter, WrittenAfter}
 use Rattle.command_ends.specs.World.{PutsLine, PutsMessage, PutsPrefix, SeenFiles, SeenJournal, WasRead, World, grammar_limit, input_limit, journal_limit}
 use Rattle.command_reduce.specs.Resume.{CanResume, IsKnownOf, IsOfOther, IsRead, IsShownBad, IsShownOfOther}
 
@@ -120,10 +123,20 @@ abbrev pub GatesWereUsed : ReduceOptions → List (List ℕ) → List (Option Lo
 GatesWereUsed options texts old new before after =
     ((texts ≡ []) × (new ≡ old) × (after ≡ before)) ⊎ GatesWereOpened options texts old new before after ⊎ GatesWereAsked options texts old new
 
--- the output file has what the input reduces to, and no other file was changed; the journal has the whole history; and no call failed
+-- the paths of all files that are read, in their order: the grammar's, the input's, and that of the journal that is resumed; and of those before this one
+abbrev pub read_paths : ReduceOptions → List (List ℕ)
+read_paths options = problem_paths (problem_in options) ++ option_to_list options.resume
+
+abbrev pub read_before : ReduceOptions → NamedFile → List (List ℕ)
+read_before options named.Journal = problem_paths (problem_in options)
+read_before options file = paths_before (problem_in options) file
+
+-- the output file has what the input reduces to, and no other file was changed; the files were read in their order, and then it was written; the journal has
+-- the whole history; and no call failed
 pub record WritesReduced (options : ReduceOptions) (known : Known) (history : History) (report : List ℕ) (old new : World) : Type 0 where
   pub reduced : IsReduced options old.files new.files known history report
   pub others : SameOthers old.files.shown new.files.shown options.output
+  pub calls : WrittenAfter (read_paths options) options.output old.calls new.calls
   pub files_quiet : IsQuiet old.files new.files
   pub gates_quiet : AreQuiet old.gates new.gates
   pub journal : JournalWhole options.journal known.start history old.journal new.journal
@@ -141,6 +154,10 @@ IsFileReached options file files = IsReached options.mode file files
 abbrev pub path_of_file : ReduceOptions → NamedFile → List ℕ
 path_of_file options named.Journal = unwrap_or options.resume []
 path_of_file options file = path_in (problem_in options) file
+
+-- a status of a run that reached neither a gate nor the journal
+abbrev pub EndsBeforeTheRun : ℕ → Type 0
+EndsBeforeTheRun status = IsOneOf (3 ∷ 5 ∷ 6 ∷ 7 ∷ 9 ∷ 10 ∷ 13 ∷ 14 ∷ 16 ∷ []) status
 
 -- The gate of this worker wasn't opened; those of the workers before it were, and the other gates and the journal are as before.
 pub record GateUnopened (options : ReduceOptions) (history : History) (worker : ℕ) (logs logs' : List (Option Log)) (old new : SeenJournal) : Type 0 where
@@ -163,21 +180,23 @@ pub data ReduceEnds (options : ReduceOptions) (known : Known) (history : History
       → (put : Puts report old.out new.out)
       → ReduceEnds options known history old new 0
   -- out of memory, for which there is no evidence; no file was changed, and the gate of a worker alone didn't fail
-  memory : (files : FilesKept old.files new.files)
+  memory : (files : SomeFilesRead (read_paths options) old new)
       → (gates_quiet : options.jobs ≡ 1 → AreQuiet old.gates new.gates)
       → (journal : JournalSoFar options.journal known.start history old.journal new.journal)
       → (line : PutsMessage (codes "out of memory") old.out new.out)
       → ReduceEnds options known history old new 1
-  -- a call of the files failed, the line names one of the files that are read, and neither a gate nor the journal was reached
+  -- a read failed of the file that the line names, after those of the files before it, and neither a gate nor the journal was reached
   unread : (file : NamedFile)
       → (reached : IsFileReached options file old.files)
       → (failed : CallFailed old.files new.files)
+      → (reads : UnreadAfter (read_before options file) (path_of_file options file) old.calls new.calls)
       → (same : SameFiles old.files.shown new.files.shown)
       → (untouched : NotReached history old new)
       → (line : PutsMessage (codes "cannot read " ++ word_for file) old.out new.out)
       → ReduceEnds options known history old new 3
-  -- the input reduces to some text, but a call of the files failed, and the output file may hold anything
+  -- the input reduces to some text, but the write of the output file failed, which may hold anything
   unwritten : (failed : CallFailed old.files new.files)
+      → (calls : UnwrittenAfter (read_paths options) options.output old.calls new.calls)
       → (text report : List ℕ)
       → (reduces : ReducesTo options old.files known history text report)
       → (others : SameOthers old.files.shown new.files.shown options.output)
@@ -194,7 +213,7 @@ pub data ReduceEnds (options : ReduceOptions) (known : Known) (history : History
   faulty : (trees : GrammarOptions) (text : List ℕ)
       → (mode : options.mode ≡ ModeOptions.by_grammar trees)
       → (read : GrammarWasRead trees.grammar old.files (λ texts. IsFaultIn trees.grammar texts text))
-      → (files : FilesKept old.files new.files)
+      → (files : FilesRead (grammar_paths trees.grammar) old new)
       → (untouched : NotReached history old new)
       → (line : PutsLine (fault_line text) old.out new.out)
       → ReduceEnds options known history old new 5
@@ -203,7 +222,7 @@ pub data ReduceEnds (options : ReduceOptions) (known : Known) (history : History
       → (mode : options.mode ≡ ModeOptions.by_grammar trees)
       → (uncut : IsUncut fault)
       → (read : InputHas trees.grammar (λ c bytes. IsInputFault c bytes fault) (problem_in options) old.files)
-      → (files : FilesKept old.files new.files)
+      → (files : FilesRead (problem_paths (problem_in options)) old new)
       → (untouched : NotReached history old new)
       → (line : PutsMessage (input_fault_text fault) old.out new.out)
       → ReduceEnds options known history old new 6
@@ -211,14 +230,14 @@ pub data ReduceEnds (options : ReduceOptions) (known : Known) (history : History
   unparsed : (trees : GrammarOptions)
       → (mode : options.mode ≡ ModeOptions.by_grammar trees)
       → (read : InputHas trees.grammar (λ c bytes. IsInputFault c bytes input_fault.NoParse) (problem_in options) old.files)
-      → (files : FilesKept old.files new.files)
+      → (files : FilesRead (problem_paths (problem_in options)) old new)
       → (untouched : NotReached history old new)
       → (line : PutsMessage (codes "input does not parse") old.out new.out)
       → ReduceEnds options known history old new 7
   -- the input was read, and its verdict is no
   uninteresting : (read : ProblemAccepted options old.files (λ problem.
       IsKnownOf options old.files (start_text problem) known × IsRefused options.jobs (verdict_in known.kept) (admits_of options problem) problem history))
-      → (files : FilesKept old.files new.files)
+      → (files : FilesRead (read_paths options) old new)
       → (gates_quiet : AreQuiet old.gates new.gates)
       → (journal : JournalWhole options.journal known.start history old.journal new.journal)
       → (line : PutsMessage (codes "start is not interesting") old.out new.out)
@@ -226,7 +245,7 @@ pub data ReduceEnds (options : ReduceOptions) (known : Known) (history : History
   -- the input was read, a keep text doesn't occur in it, the line names the first such by its number from 1, and neither a gate nor the journal was reached
   keep_missing : (index : ℕ)
       → (read : ProblemRead (problem_in options) old.files (λ problem. first_missing options.keeps (start_text problem) ≡ Some index))
-      → (files : FilesKept old.files new.files)
+      → (files : FilesRead (problem_paths (problem_in options)) old new)
       → (untouched : NotReached history old new)
       → (line : PutsMessage (keep_text (index + 1)) old.out new.out)
       → ReduceEnds options known history old new 9
@@ -234,7 +253,7 @@ pub data ReduceEnds (options : ReduceOptions) (known : Known) (history : History
   too_long : (file : NamedFile)
       → (reached : IsFileReached options file old.files)
       → (longer : IsLonger (limit_of file) (old.files.shown (path_of_file options file)))
-      → (files : FilesKept old.files new.files)
+      → (files : FilesRead (read_before options file ++ path_of_file options file ∷ []) old new)
       → (untouched : NotReached history old new)
       → (line : PutsMessage (word_for file ++ codes " is too long") old.out new.out)
       → ReduceEnds options known history old new 10
@@ -244,7 +263,7 @@ pub data ReduceEnds (options : ReduceOptions) (known : Known) (history : History
       → (named : options.resume ≡ Some path)
       → (read : ProblemAccepted options old.files (λ problem. IsDigestOf (start_text problem) start))
       → (resumed : WasRead journal_limit (old.files.shown path) (λ bytes. IsRead bytes (IsOfOther start other)))
-      → (files : FilesKept old.files new.files)
+      → (files : FilesRead (read_paths options) old new)
       → (untouched : NotReached history old new)
       → (line : PutsMessage (other_start_text other start) old.out new.out)
       → ReduceEnds options known history old new 13
@@ -253,7 +272,7 @@ pub data ReduceEnds (options : ReduceOptions) (known : Known) (history : History
       → (named : options.resume ≡ Some path)
       → (read : ProblemAccepted options old.files (λ problem. Unit {0}))
       → (bad : WasRead journal_limit (old.files.shown path) LacksHead)
-      → (files : FilesKept old.files new.files)
+      → (files : FilesRead (read_paths options) old new)
       → (untouched : NotReached history old new)
       → (line : PutsMessage (codes "bad journal head") old.out new.out)
       → ReduceEnds options known history old new 14
@@ -262,7 +281,7 @@ pub data ReduceEnds (options : ReduceOptions) (known : Known) (history : History
       → (named : options.resume ≡ Some path)
       → (read : ProblemAccepted options old.files (λ problem. Unit {0}))
       → (bad : WasRead journal_limit (old.files.shown path) (λ bytes. IsBadAt bytes offset))
-      → (files : FilesKept old.files new.files)
+      → (files : FilesRead (read_paths options) old new)
       → (untouched : NotReached history old new)
       → (line : PutsMessage (bad_record_text offset) old.out new.out)
       → ReduceEnds options known history old new 14
@@ -272,7 +291,7 @@ pub data ReduceEnds (options : ReduceOptions) (known : Known) (history : History
       → (read : ProblemAccepted options old.files (λ problem.
       IsKnownOf options old.files (start_text problem) known
       × (options.jobs ≡ 1 → IsUnfinished (verdict_in known.kept) (admits_of options problem) problem history)))
-      → (files : FilesKept old.files new.files)
+      → (files : FilesRead (read_paths options) old new)
       → (journal : ScriptLeaves options known history worker old new)
       → (line : PutsMessage (script_text worker) old.out new.out)
       → ReduceEnds options known history old new 11
@@ -281,14 +300,14 @@ pub data ReduceEnds (options : ReduceOptions) (known : Known) (history : History
       → (read : ProblemAccepted options old.files (IsHistoryWith options old.files known history))
       → (broken : JournalBroken options.jobs options.journal known.start (verdict_in known.kept) history old.journal new.journal)
       → (gates_quiet : options.jobs ≡ 1 → AreQuiet old.gates new.gates)
-      → (files : FilesKept old.files new.files)
+      → (files : FilesRead (read_paths options) old new)
       → (line : PutsMessage (codes "journal fault") old.out new.out)
       → ReduceEnds options known history old new 12
   -- the input was read, each keep text occurs in it, the line on `out` names the first last line of `--protect`, and then of `--only`, that is beyond its
   -- lines, and neither a gate nor the journal was reached
   beyond : (last lines : ℕ)
       → (read : ProblemRead (problem_in options) old.files (λ problem. NamesBeyond options last lines (start_text problem)))
-      → (files : FilesKept old.files new.files)
+      → (files : FilesRead (problem_paths (problem_in options)) old new)
       → (untouched : NotReached history old new)
       → (line : PutsMessage (beyond_text last lines) old.out new.out)
       → ReduceEnds options known history old new 16

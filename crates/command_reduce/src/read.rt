@@ -6,10 +6,10 @@ ghost use Rattle.run_problem.specs.declared.problem.ReadProblem.TheVariants.{Tre
 ghost use Rattle.run_problem.specs.Read.{IsReadAs, IsReady};
 ghost use Rattle.command_reduce.specs.Reduce.{problem_in};
 ghost use Rattle.command_reduce.specs.inner.Read.{admits_read};
-ghost use Rattle.command_problem.specs.Problem.{ProblemRead};
-ghost use Rattle.command_problem.specs.Read.{ProblemFails};
+ghost use Rattle.command_problem.specs.Problem.{ProblemRead, problem_paths};
+ghost use Rattle.command_problem.specs.Read.{ProblemCalls, ProblemFails};
 ghost use Rattle.command_words.specs.Lines.{reduce_read};
-ghost use Rattle.command_ends.specs.World.{IsQuiet, seen};
+ghost use Rattle.command_ends.specs.World.{IsQuiet, WereRead, seen};
 
 use command_ends::{Refusal, read_input};
 use command_problem::read_tree;
@@ -45,6 +45,8 @@ pub fn read_problem<F: Files>(
     ensures same { SameFiles (F.content files.old) (F.content files.new) }
     ensures refused { IfErr result (λ refusal. ProblemFails (problem_in (reduce_read line.now)) (seen F.content F.faults files.old)
         (seen F.content F.faults files.new) refusal) }
+    ensures read { OnOk result (WereRead (problem_paths (problem_in (reduce_read line.now))) (F.calls files.old) (F.calls files.new)) }
+    ensures calls { IfErr result (ProblemCalls (problem_in (reduce_read line.now)) (F.calls files.old) (F.calls files.new)) }
 {
     match line.mode {
         ModeLine::Lines => {

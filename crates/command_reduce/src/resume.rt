@@ -1,11 +1,12 @@
 //! The journal that is resumed.
 
+ghost use Rattle.std.specs.Option.{option_to_list};
 ghost use Rattle.std.specs.Prelude.{◌≡◌, IfErr, IfOk, IfSome, MatchOption, OnOk, option_map};
 ghost use Rattle.edge_io.specs.Files.{SameFiles};
 ghost use Rattle.reduce_journal.specs.History.{records_of};
-ghost use Rattle.command_ends.specs.World.{IsQuiet, seen};
+ghost use Rattle.command_ends.specs.World.{IsQuiet, WereRead, seen};
 ghost use Rattle.command_reduce.specs.Resume.{IsKeptFrom, IsOfOther, IsResumed};
-ghost use Rattle.command_reduce.specs.inner.Resume.{KeptFails, ResumeRefused};
+ghost use Rattle.command_reduce.specs.inner.Resume.{KeptFails, ResumeRefused, ResumeRefusedCalls};
 
 use command_ends::{JOURNAL_LIMIT, NamedFile, Refusal, read_file};
 use edge_io::Files;
@@ -27,6 +28,8 @@ pub(crate) fn read_kept<F: Files>(
     ensures quiet { OnOk result (IsQuiet (seen F.content F.faults files.old) (seen F.content F.faults files.new)) }
     ensures refused { IfErr result (λ refusal. ResumeRefused (option_map (λ path. path.now) path.entry) start.now
         (seen F.content F.faults files.old) (seen F.content F.faults files.new) refusal) }
+    ensures read { OnOk result (WereRead (option_to_list (option_map (λ path. path.now) path.entry)) (F.calls files.old) (F.calls files.new)) }
+    ensures calls { IfErr result (ResumeRefusedCalls (option_map (λ path. path.now) path.entry) (F.calls files.old) (F.calls files.new)) }
     ensures same { SameFiles (F.content files.old) (F.content files.new) }
 {
     let Some(path) = path else {

@@ -9,14 +9,15 @@ ghost use Rattle.run_problem.specs.Problem.{Problem};
 ghost use Rattle.run_problem.specs.Read.{IsReadAs, IsReady, numbers_read, start_read};
 ghost use Rattle.run_problem.specs.Ends.{IsRunOf};
 ghost use Rattle.command_problem.specs.Problem.{ProblemRead};
-ghost use Rattle.command_reduce.specs.Reduce.{Reduces, problem_in};
+ghost use Rattle.command_reduce.specs.Reduce.{EndsBeforeTheRun, Reduces, problem_in, read_paths};
 ghost use Rattle.command_reduce.specs.Resume.{IsKnownOf};
 ghost use Rattle.command_reduce.specs.inner.Reduce.{ReduceSteps};
-ghost use Rattle.command_reduce.specs.inner.Read.{AcceptFails, admits_read, stays_read};
+ghost use Rattle.command_reduce.specs.inner.Read.{AcceptCalls, AcceptFails, admits_read, stays_read};
 ghost use Rattle.command_reduce_calls.specs.Stays.{AcceptsStart, StaysFail};
 ghost use Rattle.command_reduce.specs.inner.Run.{IsSoundOpened, IsSoundStarted};
 ghost use Rattle.command_words.specs.Lines.{reduce_read};
-ghost use Rattle.command_ends.specs.World.{IsQuiet, seen, seen_gates};
+ghost use Rattle.command_ends.specs.Status.{status_of};
+ghost use Rattle.command_ends.specs.World.{IsQuiet, OnePut, WereRead, seen, seen_gates};
 
 use crate::read::read_problem;
 use crate::resume::read_kept;
@@ -135,6 +136,8 @@ fn accept<'a, F: Files>(
     ensures same { SameFiles (F.content files.old) (F.content files.new) }
     ensures refused { IfErr result (λ refusal. AcceptFails (reduce_read line.now) (seen F.content F.faults files.old)
         (seen F.content F.faults files.new) refusal) }
+    ensures read { OnOk result (WereRead (read_paths (reduce_read line.now)) (F.calls files.old) (F.calls files.new)) }
+    ensures calls { IfErr result (AcceptCalls (reduce_read line.now) (F.calls files.old) (F.calls files.new)) }
 {
     all_keep_protected();
     let problem = read_problem(alloc, line, files)?;
@@ -168,13 +171,20 @@ fn reduce_steps<F: Files, G: Gate + Send, J: Sink + Drop + Send, W: Threads + Wa
     ensures idle { AreIdle workers.new }
     ensures as_many { length workers.new ≡ length workers.old }
     ensures steps { ReduceSteps (reduce_read line.now) G.may_say result.events.items
-        (record { files = seen F.content F.faults files.old; gates = seen_gates G.log G.faults workers.old; journal = seen J.put_so_far J.faults journal })
+        (record {
+          files = seen F.content F.faults files.old;
+          calls = F.calls files.old;
+          gates = seen_gates G.log G.faults workers.old;
+          journal = seen J.put_so_far J.faults journal;
+        })
         (record {
           files = seen F.content F.faults files.new;
+          calls = F.calls files.new;
           gates = seen_gates G.log G.faults workers.new;
           journal = seen J.put_so_far J.faults result.journal;
         })
         result.outcome }
+    ensures handed_in { IfErr result.outcome (λ refusal. EndsBeforeTheRun (status_of refusal) → (workers.new ≡ workers.old) × (result.journal ≡ journal)) }
 {
     match accept(alloc, line, files) {
         Err(refusal) => Steps {
@@ -230,17 +240,21 @@ pub fn reduce<F: Files, G: Gate + Send, J: Sink + Drop + Send, O: Sink, W: Threa
     ensures reduces { Reduces (reduce_read line.now) G.may_say
         (record {
           files = seen F.content F.faults files.old;
+          calls = F.calls files.old;
           gates = seen_gates G.log G.faults workers.old;
           journal = seen J.put_so_far J.faults journal;
           out = seen O.put_so_far O.faults out.old;
         })
         (record {
           files = seen F.content F.faults files.new;
+          calls = F.calls files.new;
           gates = seen_gates G.log G.faults workers.new;
           journal = seen J.put_so_far J.faults result.journal;
           out = seen O.put_so_far O.faults out.new;
         })
         result.status }
+    ensures handed_in { EndsBeforeTheRun result.status → (workers.new ≡ workers.old) × (result.journal ≡ journal) }
+    ensures one_put { OnePut (O.puts out.old) (O.puts out.new) }
 {
     input_fault_once();
     inputs_are_in_language();

@@ -132,7 +132,7 @@ module _ {G : Type 0} (log : G → Option Log) (faults : G → ℕ) (options : R
 
       at : (fault : GateFault) → OpenFails (faults (get_or new i d).gate) (faults worker.gate) fault
           → OpenFailed fault number (seen_gates log faults old) (seen_gates log faults (set new i worker))
-      at Memory why = quiet_seen old (set new i worker) (map-set_same count new i worker d why ∙ are.quiet)
+      at (Memory _) why = quiet_seen old (set new i worker) (map-set_same count new i worker d why ∙ are.quiet)
       at Failed why =
           let within : i < length (worker_faults faults old) = let len = length-map old count in let many = are.as_many in omega (arith, less, len, many) in
           let is : faults (get_or new i d).gate ≡ get_or (worker_faults faults old) i (count d) =

@@ -20,14 +20,14 @@ use Rattle.command_reduce_calls.specs.Stays.{StaysFail, first_beyond, first_beyo
 
 -- why the keep texts aren't held
 pub keeps_fail : (options : ReduceOptions) (start : List ℕ) (refusal : Refusal) → KeepsFail options.keeps start refusal → StaysFail options start refusal
-keeps_fail options start Memory why = tt
+keeps_fail options start (Memory _) why = tt
 keeps_fail options start (KeepMissing line) why = why
 keeps_fail options start _ why = absurd why
 
 -- the refusal that names the first line that is beyond the last
 pub beyond_fails : (options : ReduceOptions) (start : List ℕ) (last : ℕ) (refusal : Refusal) → holds_all options.keeps start ≡ true
     → first_beyond_start options.protects start ≡ Some last → IsBeyondRefusal last (length (lines_of start)) refusal → StaysFail options start refusal
-beyond_fails options start last Memory kept beyond is = tt
+beyond_fails options start last (Memory _) kept beyond is = tt
 beyond_fails options start last (BeyondLines line) kept beyond is = (last, length (lines_of start), (kept, refl, beyond), is)
 beyond_fails options start last _ kept beyond is = absurd is
 

@@ -26,7 +26,7 @@ opened_from options number (suc more) (log ∷ logs) = opened_log options number
 -- the gate of this worker failed, or none did
 abbrev pub OpenFailed : GateFault → ℕ → List SeenGate → List SeenGate → Type 0
 OpenFailed Failed worker old new = GateFailed worker old new
-OpenFailed Memory worker old new = AreQuiet old new
+OpenFailed (Memory _) worker old new = AreQuiet old new
 
 -- Why the gates weren't all opened: that of this worker wasn't, those of the workers before it were, and the others are as before.
 pub record GateRefused (options : ReduceOptions) (old new : List SeenGate) (refused : OpeningFault) : Type 0 where

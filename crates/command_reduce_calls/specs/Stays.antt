@@ -52,7 +52,7 @@ NamesBeyond options last lines start =
 -- Why a start wasn't accepted: this keep text is the first that doesn't occur in it; or each occurs, and this is the first named last line that is
 -- beyond its lines; or out of memory.
 abbrev pub StaysFail : ReduceOptions → List ℕ → Refusal → Type 0
-StaysFail options start Memory = Unit {0}
+StaysFail options start (Memory _) = Unit {0}
 StaysFail options start (KeepMissing line) = KeepsFail options.keeps start (KeepMissing line)
 StaysFail options start (BeyondLines line) =
     (last : ℕ) × (lines : ℕ) × NamesBeyond options last lines start × IsBeyondRefusal last lines (BeyondLines line)

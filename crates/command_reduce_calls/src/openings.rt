@@ -79,8 +79,9 @@ pub fn open_journal<J: Sink>(
     ensures quiet { OnOk result (J.faults journal.new ≡ J.faults journal.old) }
     ensures refused { IfErr result (λ fault. OpeningFails (J.faults journal.old) (J.faults journal.new) fault) }
 {
-    let Ok(name) = journal_name(alloc, line) else {
-        return Err(RunFault::Memory);
+    let name = match journal_name(alloc, line) {
+        Ok(name) => name,
+        Err(memory) => return Err(RunFault::Memory(memory)),
     };
     journal.open(name.as_str())?;
     Ok(())

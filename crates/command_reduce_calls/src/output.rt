@@ -2,8 +2,9 @@
 
 ghost use Rattle.std.specs.Prelude.{IfErr, OnOk};
 ghost use Rattle.edge_io.specs.Files.{Holds, SameOthers};
-ghost use Rattle.command_reduce_calls.specs.Calls.{WriteEnds};
-ghost use Rattle.command_ends.specs.Status.{WriteFails};
+ghost use Rattle.edge_io.specs.FileCalls.{WereMade};
+ghost use Rattle.command_reduce_calls.specs.Calls.{WriteEnds, result_makes};
+ghost use Rattle.command_ends.specs.Status.{WriteFails, write_makes};
 ghost use Rattle.command_ends.specs.World.{IsQuiet, seen};
 
 use command_ends::{Refusal, write_file};
@@ -23,6 +24,7 @@ fn write_text<F: Files>(
     ensures quiet { OnOk result (IsQuiet (seen F.content F.faults files.old) (seen F.content F.faults files.new)) }
     ensures others { SameOthers (F.content files.old) (F.content files.new) line.now.output.now }
     ensures refused { IfErr result (λ refusal. WriteFails (seen F.content F.faults files.old) (seen F.content F.faults files.new) refusal) }
+    ensures calls { WereMade (write_makes line.now.output.now result) (F.calls files.old) (F.calls files.new) }
 {
     write_file(files, line.output, &reduced.text)
 }
@@ -34,7 +36,8 @@ pub fn write_result<F: Files>(
     files: &mut F,
     outcome: Result<Reduced, RunFault>,
 ) -> Result<Vec<u8>, Refusal>
-    ensures { WriteEnds line.now.output.now (seen F.content F.faults files.old) (seen F.content F.faults files.new) outcome result }
+    ensures ends { WriteEnds line.now.output.now (seen F.content F.faults files.old) (seen F.content F.faults files.new) outcome result }
+    ensures calls { WereMade (result_makes line.now.output.now outcome result) (F.calls files.old) (F.calls files.new) }
 {
     let reduced = outcome?;
     let text = report(alloc, &reduced.counts)?;

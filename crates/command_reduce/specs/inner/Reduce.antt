@@ -7,18 +7,19 @@ use Rattle.run_gated.specs.declared.known.Known.{Known}
 use Rattle.command_ends.specs.declared.status.Refusal.{Refusal}
 use Rattle.command_ends.specs.Status.{line_of, status_of}
 use Rattle.command_words.specs.Commands.{ReduceOptions}
-use Rattle.command_ends.specs.World.{logs_of, PutsLine, SeenFiles, SeenGate, SeenJournal, SeenOut, World}
+use Rattle.command_ends.specs.World.{logs_of, PutsLine, SeenCalls, SeenFiles, SeenGate, SeenJournal, SeenOut, World}
 use Rattle.command_reduce.specs.Reduce.{ReduceEnds, WritesReduced, RecordsAreSound, IsHistoryOfInput}
 
 -- What `reduce` reaches, without `out`.
 pub record Inside : Type 0 where
   pub files : SeenFiles
+  pub calls : SeenCalls
   pub gates : List SeenGate
   pub journal : SeenJournal
 
 -- these, and this `out`
 abbrev pub beside : Inside → SeenOut → World
-beside inside out = record { files = inside.files; gates = inside.gates; journal = inside.journal; out = out }
+beside inside out = record { files = inside.files; calls = inside.calls; gates = inside.gates; journal = inside.journal; out = out }
 
 -- the run ends with this refusal, whatever becomes of its line
 abbrev pub ReduceFails : ReduceOptions → Known → History → Inside → Inside → Refusal → Type 0

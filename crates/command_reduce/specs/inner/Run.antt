@@ -23,7 +23,7 @@ JournalAfter workers name start kept history old new (Ok reduced) = JournalWhole
 JournalAfter workers name start kept history old new (Err run.NotInteresting) = JournalWhole name start history old new
 JournalAfter workers name start kept history old new (Err (run.Script worker)) = JournalWhole name start history old new
 JournalAfter workers name start kept history old new (Err run.Journal) = JournalBroken workers name start kept history old new
-JournalAfter workers name start kept history old new (Err run.Memory) = JournalSoFar name start history old new
+JournalAfter workers name start kept history old new (Err (run.Memory _)) = JournalSoFar name start history old new
 
 -- A gate wasn't opened, which is the answer.
 pub record Unopened {A : Type 0} (options : ReduceOptions) (history : History) (logs logs' : List (Option Log)) (old new : SeenJournal)

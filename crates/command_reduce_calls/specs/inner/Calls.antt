@@ -7,4 +7,4 @@ use Rattle.script_gate_trait.specs.declared.gate.GateFault.TheVariants.{Failed a
 -- why a gate wasn't opened, by its counts before and after
 abbrev pub OpenFails : ℕ → ℕ → GateFault → Type 0
 OpenFails count count' GateFailed = Rose count count'
-OpenFails count count' GateMemory = count' ≡ count
+OpenFails count count' (GateMemory _) = count' ≡ count

@@ -10,7 +10,7 @@ use Rattle.command_reduce.proofs.resume.kept_of.Goals as goal
 -- the line is that of the other start
 other_fails : (start other : Digest) (found : Option Digest) (refusal : Refusal) → found ≡ Some other → other ≢ start → IsOtherStartRefusal other start refusal
     → KeptFails start found refusal
-other_fails start other found Memory is differs line = tt
+other_fails start other found (Memory _) is differs line = tt
 other_fails start other found (OtherStart text) is differs line = (other, is, differs, line)
 other_fails start other found _ is differs line = absurd line
 

@@ -13,6 +13,7 @@ use Rattle.command_ends.proofs.Lent.{same_seen}
 use Rattle.command_reduce.specs.Resume.{IsKeptFrom, IsKnownOf}
 use Rattle.command_reduce.specs.inner.Resume.{ResumeRefused}
 use Rattle.command_reduce.specs.inner.Read.{admits_read}
+use Rattle.command_reduce.proofs.CallLemmas.{all_read_calls, problem_refused_calls, resume_refused_calls, stays_refused_calls}
 use Rattle.command_reduce.proofs.ProblemLemmas.{accepted_as, start_as}
 use Rattle.command_reduce.proofs.ReadLemmas.{start_stays, stays_refused}
 use Rattle.command_reduce.proofs.steps.accept.Goals as goal
@@ -77,3 +78,28 @@ returns-in_err-kept-clause-refused g c =
       subst (λ (files : SeenFiles). ResumeRefused options.resume start files new refusal)
           (same_seen old mid c.read_problem.ensures.same c.in_ok-problem.ensures.quiet) c.in_err-kept.ensures.refused,
     )))
+
+-- the first `?` that fails is that of the problem
+pub returns-in_err-problem-clause-calls : goal.returns-in_err-problem-clause-calls
+returns-in_err-problem-clause-calls g c =
+    let p = err_from_is_err_and c.from_residual.result c.from_residual.ensures.1 in
+    rw (p.1, p.2) (problem_refused_calls (reduce_read c.args.line.now) (g.F.Files.calls c.args.files.now) (g.F.Files.calls c.args.files.now)
+    (g.F.Files.calls c.read_problem.new.files) (seen g.F.Files.content g.F.Files.faults c.args.files.now)
+    (seen g.F.Files.content g.F.Files.faults c.read_problem.new.files) c.in_err-problem.field-0.0 c.in_err-problem.ensures.refused
+    c.in_err-problem.ensures.calls)
+
+pub returns-in_err-guard-clause-calls : goal.returns-in_err-guard-clause-calls
+returns-in_err-guard-clause-calls g c =
+    let p = err_from_is_err_and c.from_residual-in_err-guard.result c.from_residual-in_err-guard.ensures.1 in
+    rw (p.1, p.2) (stays_refused_calls (reduce_read c.args.line.now) (g.F.Files.calls c.args.files.now) (g.F.Files.calls c.args.files.now)
+    (g.F.Files.calls c.read_problem.new.files) (start_read c.in_ok-problem.problem) c.in_err-guard.field-0.0
+    c.in_err-guard.ensures.refused c.in_ok-problem.ensures.read)
+
+pub returns-clause-read : goal.returns-clause-read
+returns-clause-read g c = all_read_calls (reduce_read c.args.line.now) _ _ _ c.in_ok-problem.ensures.read c.in_ok-kept.ensures.read
+
+pub returns-in_err-kept-clause-calls : goal.returns-in_err-kept-clause-calls
+returns-in_err-kept-clause-calls g c =
+    let p = err_from_is_err_and c.from_residual-in_err-kept.result c.from_residual-in_err-kept.ensures.1 in
+    rw (p.1, p.2) (resume_refused_calls (reduce_read c.args.line.now) _ _ _ c.in_ok-problem.ensures.read c.in_err-kept.field-0.0
+    c.in_err-kept.ensures.calls)
