@@ -147,7 +147,7 @@ module _ (options : ReduceOptions) (known : Known) (history : History) (old new 
   -- by how it ended
   result_in : {status : ℕ} → ReduceEnds options known history old new status → HasCome status ⊎ (HasResult status → ⊥)
   result_in (done report writes put) = inl (come writes.reduced.text report writes.reduced.reduces (λ was. writes.reduced.written) (λ is. put))
-  result_in (unwritten failed text report reduces others gates_quiet kept put) =
+  result_in (unwritten failed calls text report reduces others gates_quiet kept put) =
       inl (come text report reduces (λ was. ⊎_elim (λ is. absurd (cc is)) (λ at_four. absurd (at_four.1 failed)) was) (λ is. absurd (cc is)))
   result_in (unput report writes put) =
       inl (come writes.reduced.text report writes.reduced.reduces (λ was. writes.reduced.written) (λ is. absurd (cc is)))

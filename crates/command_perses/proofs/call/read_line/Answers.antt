@@ -1,4 +1,4 @@
 use Rattle.command_perses.proofs.call.read_line.Goals as goal
 
 pub returns-in-Err-clause-refused : goal.returns-in-Err-clause-refused
-returns-in-Err-clause-refused c = tt
+returns-in-Err-clause-refused c = c.in-Err.ensures.names
