@@ -207,6 +207,16 @@ class Notices(unittest.TestCase):
         self.write("t", "zz")
         self.says(7, "perses: t:1:2: 'z' can't be here; what can: the end, 'a', 'b', 'c', '\\'', '\\n', 'f', 'g', 'h', and others\nzz\n ^\n", "reduce", *TREES, "--script", "s")
 
+    def test_limits_of_a_grammar(self):
+        self.write("g", "grammar G; a : '" + "x" * 1_000_000 + "' ;")
+        lexer = "its lexer would have more than 1000000 states or 4000000 ranges of characters"
+        self.says(1, f"perses: g: {lexer}, or there is too little memory\n", "reduce", *TREES, "--script", "s")
+        chain = " ".join(f"r{number} : r{number + 1} ;" for number in range(1, 5793))
+        self.write("g", f"grammar G; {chain} r5793 : 'x' ;")
+        self.write("t", "x")
+        symbols = "in its chains of rules more than 16777216 symbols would fit"
+        self.says(1, f"perses: g: {symbols}, or there is too little memory\n", "reduce", *TREES, "--script", "s")
+
     def test_scripts_that_say_no(self):
         for commands, end in (
             ("exit 1", "exit status: 1"),

@@ -48,13 +48,13 @@ not_started bytes journal read none =
 abbrev IsBad : JournalFault → Type 0
 IsBad BadHead = Unit {0}
 IsBad (BadRecord offset) = Unit {0}
-IsBad Memory = ⊥
+IsBad (Memory memory) = ⊥
 
 no_journal : (bytes : List ℕ) (fault : JournalFault) → IsBad fault
     → ((first : Head) (events : History) (torn : ℕ) → IsJournalOf bytes first events torn → GivesJournal first events torn (Err fault)) → ¬ IsJournal bytes
 no_journal bytes BadHead bad each journal = each journal.0 journal.1 journal.2 journal.3
 no_journal bytes (BadRecord offset) bad each journal = each journal.0 journal.1 journal.2 journal.3
-no_journal bytes Memory bad each journal = bad
+no_journal bytes (Memory memory) bad each journal = bad
 
 not_begun : (bytes : List ℕ) → (¬ IsHeadBegun bytes) → (¬ IsJournal bytes) → ¬ IsBegun bytes
 not_begun bytes whole none (inl begun) = whole begun

@@ -8,9 +8,10 @@ use crate::files::{Paths, has_journal, is_free, is_one_file, journal_in, paths_o
 use crate::joining::{common_start, joined, write_history};
 use command_ends::JOURNAL_LIMIT;
 use command_words::{CommandLine, journal_name, read_words};
-use edge_io::{Sink, StreamSink};
+use edge_io::{OpenFault, Sink, SinkFault, StreamSink};
 use reduce_journal::{Digest, Event, Journal};
 use std::fs::OpenFile;
+use std::io::ErrorKind;
 use std::rt::Files;
 use std::{fs, io};
 
@@ -199,12 +200,22 @@ fn write_journal<R: Files + Print + Clone + Drop>(
     requires { IsHistory events.now }
 {
     let mut sink = StreamSink::file(rt.clone()?);
-    if sink.open(path).is_ok() && write_history(&mut sink, start, events).is_ok() {
-        return Ok(());
+    match sink.open(path) {
+        Ok(()) => {}
+        Err(OpenFault::Memory(memory)) => return Err(AsideCause::Memory(memory)),
+        Err(OpenFault::Failed) => return Err(last_failure(&sink)),
     }
+    match write_history(&mut sink, start, events) {
+        Ok(()) => Ok(()),
+        Err(SinkFault::Failed) => Err(last_failure(&sink)),
+    }
+}
+
+/// The failure that the sink counted last.
+fn last_failure<R: Files + Print>(sink: &StreamSink<R>) -> AsideCause {
     match sink.reason() {
-        Some(reason) => Err(AsideCause::Failed { reason }),
-        None => Err(AsideCause::Memory),
+        Some(reason) => AsideCause::Failed { reason },
+        None => AsideCause::from(io::Error::from(ErrorKind::Other)),
     }
 }
 

@@ -22,7 +22,7 @@ pub enum AsideCause {
     TooLong,
     /// Memory ran out.
     #[error("out of memory")]
-    Memory,
+    Memory(Memory),
 }
 
 impl From<io::Error> for AsideCause {
@@ -40,21 +40,22 @@ impl From<Memory> for AsideCause {
     ghost use Rattle.std.specs.Prelude.{◌≡◌};
     ghost use Rattle.command_resume.specs.declared.fault.AsideCause.TheVariants.{Memory as OutOfMemory};
 
-    ghost from_gives = { λ _ cause. cause ≡ OutOfMemory };
+    ghost from_gives = { λ memory cause. cause ≡ OutOfMemory memory };
 
-    fn from(_: Memory) -> AsideCause {
-        AsideCause::Memory
+    fn from(memory: Memory) -> AsideCause {
+        AsideCause::Memory(memory)
     }
 }
 
 impl From<AllocError> for AsideCause {
     ghost use Rattle.std.specs.Prelude.{◌≡◌};
     ghost use Rattle.command_resume.specs.declared.fault.AsideCause.TheVariants.{Memory as OutOfMemory};
+    ghost use Rattle.faults.specs.Memory.{ran_out};
 
-    ghost from_gives = { λ _ cause. cause ≡ OutOfMemory };
+    ghost from_gives = { λ _ cause. cause ≡ OutOfMemory ran_out };
 
-    fn from(_: AllocError) -> AsideCause {
-        AsideCause::Memory
+    fn from(refused: AllocError) -> AsideCause {
+        AsideCause::Memory(Memory::from(refused))
     }
 }
 
@@ -69,11 +70,11 @@ pub enum AsideFault {
     NotRemoved { aside: String, reason: io::Error },
     /// Memory ran out.
     #[error("out of memory")]
-    Memory,
+    Memory(Memory),
 }
 
 impl From<Memory> for AsideFault {
-    fn from(_: Memory) -> AsideFault {
-        AsideFault::Memory
+    fn from(memory: Memory) -> AsideFault {
+        AsideFault::Memory(memory)
     }
 }

@@ -99,7 +99,7 @@ fn begun_journal(alloc: Global, bytes: &Bytes) -> Result<Option<Journal>, AsideC
     match read_journal(alloc, bytes) {
         Ok(journal) if journal.start.is_none() => Ok(None),
         Ok(journal) => Ok(Some(journal)),
-        Err(JournalFault::Memory) => Err(AsideCause::Memory),
+        Err(JournalFault::Memory(memory)) => Err(AsideCause::Memory(memory)),
         Err(JournalFault::BadHead) => Err(AsideCause::NoJournal),
         Err(JournalFault::BadRecord { .. }) => Err(AsideCause::NoJournal),
     }

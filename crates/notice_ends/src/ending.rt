@@ -209,6 +209,16 @@ fn add_language(text: &mut String, alloc: Global, ending: &Ending<'_>) -> Result
     }
 }
 
+/// Which limit the grammar passes, where memory ran out for a run by it.
+fn add_limit(text: &mut String, alloc: Global, ending: &Ending<'_>) -> Result<(), AllocError> {
+    match (ending.line, grammar_files(ending)) {
+        (CommandLine::Reduce(_) | CommandLine::Check(_), Some(grammar)) => {
+            grammar.add_limit(text, alloc)
+        }
+        _ => Ok(()),
+    }
+}
+
 /// What the status says of the script.
 fn add_script(text: &mut String, ending: &Ending<'_>) -> Result<(), AllocError> {
     let Some(ask) = ending.ask else {
@@ -223,6 +233,7 @@ fn add_script(text: &mut String, ending: &Ending<'_>) -> Result<(), AllocError> 
 /// Why the run ended without its result.
 fn add_cause(text: &mut String, alloc: Global, ending: &Ending<'_>) -> Result<(), AllocError> {
     match ending.status {
+        1 => add_limit(text, alloc, ending),
         3 => add_failure(text, unread(ending), ending.reasons.files),
         4 => add_unwritten(text, ending),
         5 | 6 | 7 => add_language(text, alloc, ending),

@@ -3,13 +3,17 @@
 ghost use Rattle.std.specs.Prelude.{◌≤◌, length};
 
 use crate::text_file::TextFile;
+use compat_table::compat;
+use faults::Limit;
 use grammar_check::CheckFault;
 use grammar_load::{GrammarFault, checked_grammar};
 use grammar_load_pair::{PairGrammarFault, checked_pair};
 use grammar_pair::PairFault;
 use grammar_reader_notation::ReadFault;
 use grammar_tree::Checked;
+use lexer::Lexer;
 use memchr::memmem;
+use normal_form_build::normalise;
 use std::alloc::{AllocError, Global};
 
 /// Whether the byte can be in a name.
@@ -60,7 +64,7 @@ fn offset_of(fault: &ReadFault) -> Option<usize> {
         | ReadFault::Syntax { offset }
         | ReadFault::Unsupported { offset, .. }
         | ReadFault::NestedTooDeep { offset } => Some(*offset as usize),
-        ReadFault::Memory => None,
+        ReadFault::Memory(_) => None,
     }
 }
 
@@ -75,7 +79,8 @@ fn name_in(fault: &CheckFault) -> Option<&str> {
         | CheckFault::NoBase { rule }
         | CheckFault::EmptyLoop { rule }
         | CheckFault::LeftRecursion { rule } => Some(rule.as_str()),
-        CheckFault::NoStart { .. } | CheckFault::TooManyRules { .. } | CheckFault::Memory => None,
+        CheckFault::NoStart { .. } | CheckFault::TooManyRules { .. } | CheckFault::Memory(_) =>
+            None,
     }
 }
 
@@ -84,7 +89,7 @@ fn place_of(bytes: &[u8], fault: &GrammarFault) -> Option<usize> {
     match fault {
         GrammarFault::Read(fault) => offset_of(fault),
         GrammarFault::Check(fault) => place_of_name(bytes, name_in(fault)?.as_bytes()),
-        GrammarFault::Memory => None,
+        GrammarFault::Memory(_) => None,
     }
 }
 
@@ -129,7 +134,7 @@ fn place_of_pair<'a>(
             let offset = place_of_literal(alloc, parser.bytes, literal.as_str())?;
             Some((parser, offset))
         }
-        PairFault::Memory => None,
+        PairFault::Memory(_) => None,
     }
 }
 
@@ -143,7 +148,7 @@ fn place_in_pair<'a>(
     match fault {
         PairGrammarFault::Pair(fault) => place_of_pair(alloc, lexer, parser, fault),
         PairGrammarFault::Check(fault) => place_of_rule(lexer, parser, name_in(fault)?),
-        PairGrammarFault::Memory => None,
+        PairGrammarFault::Memory(_) => None,
     }
 }
 
@@ -234,6 +239,35 @@ impl GrammarFiles<'_> {
             None => self.file.path,
             Some(lexer) => lexer.path,
         }
+    }
+
+    /// Which limit it passes, where its lexer or the table of its symbols can't be made again once the run
+    /// has ended.
+    pub(crate) fn add_limit(&self, text: &mut String, alloc: Global) -> Result<(), AllocError> {
+        let Some(checked) = self.checked(alloc) else {
+            return Ok(());
+        };
+        if Lexer::build(alloc, &checked).is_err() {
+            return write!(
+                text,
+                "perses: {}: its lexer would have more than {} states or {} ranges of characters, or there is too little memory\n",
+                self.lexer_path(),
+                Limit::States.bound(),
+                Limit::Ranges.bound()
+            );
+        }
+        let Ok(normal) = normalise(alloc, &checked) else {
+            return Ok(());
+        };
+        if compat(alloc, &normal).is_err() {
+            return write!(
+                text,
+                "perses: {}: in its chains of rules more than {} symbols would fit, or there is too little memory\n",
+                self.file.path,
+                Limit::Symbols.bound()
+            );
+        }
+        Ok(())
     }
 
     /// What is wrong with it.

@@ -17,7 +17,7 @@ use std::str;
 fn offset_of(fault: &InputFault) -> Option<usize> {
     match fault {
         InputFault::NotUtf8 { offset } | InputFault::NoToken { offset } => Some(*offset as usize),
-        InputFault::NoParse | InputFault::Memory => None,
+        InputFault::NoParse | InputFault::Memory(_) => None,
     }
 }
 
@@ -53,7 +53,7 @@ pub(crate) fn add_no_tokens(
             "perses: no lexer rule of {} matches what begins there\n",
             grammar.lexer_path()
         ),
-        InputFault::NoParse | InputFault::Memory => Ok(()),
+        InputFault::NoParse | InputFault::Memory(_) => Ok(()),
     }
 }
 

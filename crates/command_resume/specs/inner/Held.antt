@@ -25,7 +25,7 @@ abbrev pub IsAnswerOn : List ℕ → Result (Option Journal) AsideCause → Type
 IsAnswerOn bytes (Ok None) = IsBegun bytes
 IsAnswerOn bytes (Ok (Some journal)) = (¬ IsBegun bytes) × IsReadOf bytes journal
 IsAnswerOn bytes (Err NoJournal) = (¬ IsBegun bytes) × (¬ IsJournal bytes)
-IsAnswerOn bytes (Err Memory) = Unit {0}
+IsAnswerOn bytes (Err (Memory memory)) = Unit {0}
 IsAnswerOn bytes (Err OtherStart) = ⊥
 IsAnswerOn bytes (Err TooLong) = ⊥
 IsAnswerOn bytes (Err (Failed reason)) = ⊥
@@ -42,7 +42,7 @@ IsUnread (Failed reason) = Unit {0}
 IsUnread NoJournal = Unit {0}
 IsUnread OtherStart = ⊥
 IsUnread TooLong = ⊥
-IsUnread Memory = ⊥
+IsUnread (Memory memory) = ⊥
 
 -- the answer on some file, or why its bytes aren't had
 abbrev pub IsAnswerToSome : Result (Option Journal) AsideCause → Type 0
