@@ -60,7 +60,7 @@ impl Language {
         match self.lexer.lex(text) {
             Ok(tokens) => Ok(tokens),
             Err(LexFault::NoToken { offset }) => Err(TreeFault::NoToken { offset }),
-            Err(LexFault::Memory) => Err(TreeFault::Memory(Memory)),
+            Err(LexFault::Memory(memory)) => Err(TreeFault::Memory(memory)),
         }
     }
 

@@ -25,7 +25,7 @@ pub fn kinds_of(alloc: Global, tokens: &Tokens) -> Result<Vec<u32>, TreeFault>
     for token in &tokens.items {
         kinds
             .push(token.kind)
-            .map_err(|_| TreeFault::Memory(Memory))?;
+            .map_err(|refused| TreeFault::Memory(Memory::from(refused)))?;
     }
     Ok(kinds)
 }

@@ -101,7 +101,7 @@ fn tokens_of(lexer: &Lexer, text: &str) -> Result<Option<Tokens>>
     match lexer.lex(text) {
         Ok(tokens) => Ok(Some(tokens)),
         Err(LexFault::NoToken { .. }) => Ok(None),
-        Err(LexFault::Memory) => bail!("out of memory"),
+        Err(LexFault::Memory(_)) => bail!("out of memory"),
     }
 }
 

@@ -1,10 +1,12 @@
-//! The bounds of lexers and normal forms: how many states a lexer may have, how many ranges its sets,
-//! and how many rules a normal form.
+//! The bounds of lexers, normal forms and their tables: how many states a lexer may have, how many ranges
+//! its sets, how many rules a normal form, and how many symbols may fit.
 
 use crate::checked_of;
 use crate::checks::fault_shown;
 use anyhow::{Result, bail};
+use compat_table::compat;
 use lexer::Lexer;
+use normal_form_build::normalise;
 use std::alloc::Global;
 
 /// Adds the text so many times.
@@ -66,6 +68,28 @@ pub(crate) fn built_shown(alloc: Global, text: &str) -> Result<String> {
         "out of memory"
     };
     Ok(String::from_str(alloc, answer)?)
+}
+
+/// A grammar of so many rules, each of which is the next one alone, and the last one a token. So the first
+/// leads to each other and the token, the second to one fewer, and so on.
+fn with_chain(alloc: Global, count: u32) -> Result<String> {
+    let mut out = String::from_str(alloc, "grammar G; ")?;
+    for number in 1..count {
+        let next = number.saturating_add(1);
+        out.push_str(format!(in alloc; "r{number} : r{next} ; ")?.as_str())?;
+    }
+    out.push_str(format!(in alloc; "r{count} : 'x' ;")?.as_str())?;
+    Ok(out)
+}
+
+/// Whether the table of the symbols that fit is made for a chain of so many rules.
+pub(crate) fn chain_shown(alloc: Global, text: &str) -> Result<String> {
+    let grammar = with_chain(alloc, text.parse::<u32>()?)?;
+    let normal = normalise(alloc, &checked_of(alloc, grammar.as_str(), None)?)?;
+    match compat(alloc, &normal) {
+        Ok(_) => Ok(String::from_str(alloc, "made")?),
+        Err(_) => Ok(String::from_str(alloc, "out of memory")?),
+    }
 }
 
 /// The rules, and then one with so many blocks. Its normal form has one rule more than it has blocks.

@@ -17,7 +17,7 @@ mod matching;
 mod pieces;
 mod sets;
 
-use crate::bounds::{blocks_shown, built_shown};
+use crate::bounds::{blocks_shown, built_shown, chain_shown};
 use crate::checks::fault_shown;
 use crate::forms::{derived_shown, form_shown, start_shown};
 use crate::kinds::{copied_shown, kinds_shown};
@@ -47,6 +47,7 @@ fn text_answer(alloc: Global, question: &str, text: &str) -> Result<String> {
     match question {
         "blocks" => blocks_shown(alloc, text),
         "build" => built_shown(alloc, text),
+        "chain" => chain_shown(alloc, text),
         "fault" => fault_shown(alloc, text),
         "matches" => matched_shown(alloc, text),
         "nothing" => nothing_shown(alloc, text),

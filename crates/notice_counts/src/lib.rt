@@ -15,8 +15,6 @@ mod journal;
 mod journal_lines;
 mod output;
 mod screen;
-#[cfg(test)]
-mod tests;
 mod text;
 
 pub use counts::{Counts, Snapshot};

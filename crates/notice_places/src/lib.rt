@@ -6,8 +6,6 @@
 
 mod excerpt;
 mod place;
-#[cfg(test)]
-mod tests;
 
 pub use excerpt::{Excerpt, excerpt_at};
 pub use place::{Place, place_after};

@@ -7,8 +7,6 @@
 
 mod fault;
 mod rows;
-#[cfg(test)]
-mod tests;
 mod usage;
 mod words;
 

@@ -4,7 +4,7 @@
 ghost use Rattle.std.specs.Prelude.{◌≡◌, ◌++◌, ◌<◌, ◌^◌, IfOk, flat_map, length, map};
 ghost use Rattle.plain_reducer.specs.Nodes.{children_of, is_among, is_number, is_token, left_node, left_nodes, put_at, tokens_of, without};
 
-use faults::Memory;
+use faults::{Limit, Memory};
 use normal_form::Sym;
 use std::alloc::Global;
 use syntax_tree::Node;
@@ -106,7 +106,7 @@ pub(crate) fn below(
         let node = all[index];
         all.extend_from_slice(&children(alloc, tree, node)?)?;
     }
-    Err(Memory)
+    Err(Memory::over(Limit::Numbers, 4_294_967_296))
 }
 
 /// The children of these nodes, each one's from left to right.

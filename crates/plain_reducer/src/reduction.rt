@@ -11,7 +11,7 @@ use crate::parts::{inside, outside, part_start};
 use crate::texts::listed_text;
 use crate::verdicts::VerdictRule;
 use compat_table::Compat;
-use faults::Memory;
+use faults::{Limit, Memory};
 use lexer::Lexer;
 use normal_form::{Normal, NormalRule, Sym};
 use std::alloc::Global;
@@ -198,7 +198,7 @@ impl Reducer<'_> {
                 return Ok(());
             }
         }
-        Err(Memory)
+        Err(Memory::over(Limit::Numbers, 4_294_967_296))
     }
 
     /// Visits the nodes that wait, the heaviest first, until none does. At first the root waits.
@@ -215,7 +215,7 @@ impl Reducer<'_> {
             let next = self.visit(node)?;
             waiting.extend_from_slice(&next)?;
         }
-        Err(Memory)
+        Err(Memory::over(Limit::Numbers, 4_294_967_296))
     }
 
     /// Goes through the levels of the tree that is left, from the root down, with a list step on the
@@ -230,7 +230,7 @@ impl Reducer<'_> {
             let nodes = self.with_tokens(&nodes)?;
             self.list_step(nodes, true)?;
         }
-        Err(Memory)
+        Err(Memory::over(Limit::Numbers, 4_294_967_296))
     }
 
     /// The children of those of these nodes that are lists or optionals.
@@ -399,7 +399,7 @@ impl Reducer<'_> {
                 return Ok(());
             }
         }
-        Err(Memory)
+        Err(Memory::over(Limit::Numbers, 4_294_967_296))
     }
 
     /// Tries each of n parts of these nodes alone, or all but it, up to the first yes, after which that

@@ -42,7 +42,7 @@ pub(crate) fn found(
     }
     match found_in(alloc, grammar, start) {
         Ok(found) => Ok(Some(found)),
-        Err(InputFault::Memory) => Err(Memory),
+        Err(InputFault::Memory(memory)) => Err(memory),
         Err(_) => Ok(None),
     }
 }

@@ -2,6 +2,10 @@
 
 mod candidates;
 mod files;
+mod gates;
 mod held;
 mod machine;
+mod permits;
+mod replaced;
 mod sinks;
+mod table;

@@ -83,7 +83,7 @@ impl<const R: u64> Gate for HoldGate<R> {
         };
         match fault {
             None => self.rule.ask(text),
-            Some(GateFault::Memory) => Err(GateFault::Memory),
+            Some(GateFault::Memory(memory)) => Err(GateFault::Memory(memory)),
             Some(GateFault::Failed) => {
                 self.faults = self.faults.saturating_add(1);
                 Err(GateFault::Failed)

@@ -4,11 +4,12 @@
 //! script at a time fails `runs_two_and_four_scripts_at_once`, and one that is always out of memory
 //! `comes_to_the_same_with_any_number_of_workers`.
 
-ghost use Rattle.std.specs.Prelude.{◌≡◌, All, IsTrue, None};
+ghost use Rattle.std.specs.Prelude.{◌≡◌, [], All, IfOk, IfSome, IsTrue, None};
 
-use edge_io::MemSink;
+use edge_io::{MemSink, Sink};
+use faults::{Limit, Memory};
 use keep_guard::{Guard, KeepTexts};
-use ordered_commit::{Board, PoolFault};
+use ordered_commit::{Board, Outcome, PoolFault};
 use reduce_core::line_reducer;
 use reduce_journal::{Event, Journal, JournalFault, digest_of, read_journal};
 use reduce_rounds::ReducerStep;
@@ -51,17 +52,27 @@ fn run_of<G: Gate + Send, W: Threads + Wait + Sync>(
     workers: &mut Vec<Worker<G>>,
     fail: &[u64],
 ) -> Result<Came, Fail> {
-    run_with(rt, alloc, workers, fail, Kept::new(alloc))
+    let journal = sink_of(alloc, fail)?;
+    run_with(rt, alloc, workers, journal, Kept::new(alloc))
 }
 
-/// What they come to with these kept verdicts.
+/// A journal whose puts of these numbers fail, from 1.
+fn sink_of(alloc: Global, fail: &[u64]) -> Result<MemSink, Fail>
+    ensures { IfOk result (λ sink. IfSome (⟦<MemSink as Sink>⟧.put_so_far sink) (λ put. put.bytes ≡ [])) }
+{
+    Ok(MemSink::new(alloc, 10000, Vec::from_slice(alloc, fail)?)?)
+}
+
+/// What they come to with this journal, which is empty, and these kept verdicts.
 fn run_with<G: Gate + Send, W: Threads + Wait + Sync>(
     rt: &W,
     alloc: Global,
     workers: &mut Vec<Worker<G>>,
-    fail: &[u64],
+    journal: MemSink,
     kept: Kept,
-) -> Result<Came, Fail> {
+) -> Result<Came, Fail>
+    requires { IfSome (⟦<MemSink as Sink>⟧.put_so_far journal) (λ put. put.bytes ≡ []) }
+{
     let count = workers.len();
     if START.len() > TEXT_LIMIT || count == 0 || count > 16 {
         return Err("1 to 16 workers and a start of few bytes")?;
@@ -71,18 +82,34 @@ fn run_with<G: Gate + Send, W: Threads + Wait + Sync>(
     }
     let guard = Guard::new(KeepTexts::new(alloc));
     let reducer = line_reducer(alloc, START, &guard)?;
-    let journal = MemSink::new(alloc, 10000, Vec::from_slice(alloc, fail)?)?;
     let start = digest_of(START);
     let Ok((board, seats)) = Board::new(alloc, reducer, journal, count as u32, start, kept) else {
         return Err("a board")?;
     };
     let outcome = run_workers(rt, board, seats, workers);
+    came_of(alloc, outcome)
+}
+
+/// What is left of the outcome of a run.
+fn came_of<R: ReducerStep + Drop>(
+    alloc: Global,
+    outcome: Outcome<R, MemSink>,
+) -> Result<Came, Fail> {
+    let (text, journal) = copies_of(alloc, outcome.front.result(), outcome.journal.bytes())?;
     Ok(Came {
         fault: outcome.fault,
-        text: Vec::from_slice(alloc, outcome.front.result())?,
-        journal: Vec::from_slice(alloc, outcome.journal.bytes())?,
+        text,
+        journal,
         events: outcome.events,
     })
+}
+
+/// Copies of a text and of a journal.
+fn copies_of(alloc: Global, text: &[u8], journal: &[u8]) -> Result<(Vec<u8>, Vec<u8>), Fail> {
+    Ok((
+        Vec::from_slice(alloc, text)?,
+        Vec::from_slice(alloc, journal)?,
+    ))
 }
 
 /// The record of this number, from 1.
@@ -263,23 +290,34 @@ fn held<W: Threads + Wait + Sync>(rt: &W, alloc: Global, width: u32) -> Result<C
     run_of(rt, alloc, &mut workers, &[])
 }
 
+/// Whether those come to the result without a fault.
+fn ends_held<W: Threads + Wait + Sync>(rt: &W, alloc: Global, width: u32) -> Result<bool, Fail> {
+    let came = held(rt, alloc, width)?;
+    Ok(came.fault == None && came.text.as_slice() == RESULT)
+}
+
 #[test]
 fn runs_two_and_four_scripts_at_once(rt: HostRuntime) -> Result<(), Fail> {
     for width in [2, 4] {
-        let came = held(&rt, rt.alloc(), width)?;
-        assert!(rt; came.fault == None && came.text.as_slice() == RESULT);
+        assert!(rt; ends_held(&rt, rt.alloc(), width)?);
     }
     Ok(())
 }
 
-/// What four workers come to if each ask of the third one's gate has this fault. Their asks are held, so
-/// that the run can't end before that gate is asked.
-fn faulty<W: Threads + Wait + Sync>(rt: &W, alloc: Global, fault: GateFault) -> Result<Came, Fail> {
-    let shared = Arc::new(alloc, HoldCount::new(4))?;
+/// What four workers come to if each ask of the gate of this worker has this fault. Their asks are held until
+/// more than so many have begun: where these are four, the run can't end before that gate is asked.
+fn faulty<W: Threads + Wait + Sync>(
+    rt: &W,
+    alloc: Global,
+    width: u32,
+    worker: u32,
+    fault: GateFault,
+) -> Result<Came, Fail> {
+    let shared = Arc::new(alloc, HoldCount::new(width))?;
     let mut workers = Vec::new(alloc);
     for number in 1..5 {
         let count = Arc::try_clone(&shared)?;
-        let gate = if number == 3 {
+        let gate = if number == worker {
             HoldGate::<98>::faulty(alloc, count, fault)
         } else {
             HoldGate::<98>::new(alloc, count)
@@ -289,22 +327,54 @@ fn faulty<W: Threads + Wait + Sync>(rt: &W, alloc: Global, fault: GateFault) -> 
     run_of(rt, alloc, &mut workers, &[])
 }
 
-/// Whether that run keeps this fault, and its journal is whole.
+/// Whether that run, whose asks are held, keeps this fault, and its journal is whole.
 fn keeps<W: Threads + Wait + Sync>(
     rt: &W,
     alloc: Global,
+    worker: u32,
     fault: GateFault,
     kept: PoolFault,
 ) -> Result<bool, Fail> {
-    let came = faulty(rt, alloc, fault)?;
+    let came = faulty(rt, alloc, 4, worker, fault)?;
     Ok(came.fault == Some(kept) && is_journal(alloc, &came))
 }
 
 #[test]
 fn keeps_the_fault_of_one_worker(rt: HostRuntime) -> Result<(), Fail> {
-    let failed = PoolFault::Script { worker: 3 };
-    assert!(rt; keeps(&rt, rt.alloc(), GateFault::Failed, failed)?);
-    assert!(rt; keeps(&rt, rt.alloc(), GateFault::Memory, PoolFault::Memory)?);
+    for worker in 1..5 {
+        let failed = PoolFault::Script { worker };
+        assert!(rt; keeps(&rt, rt.alloc(), worker, GateFault::Failed, failed)?);
+    }
+    let memory = Memory::over(Limit::Numbers, usize::MAX);
+    assert!(rt;
+        keeps(
+            &rt,
+            rt.alloc(),
+            3,
+            GateFault::Memory(memory),
+            PoolFault::Memory(memory)
+        )?
+    );
+    Ok(())
+}
+
+/// Whether that run, whose asks aren't held, comes to the result, or keeps the fault of the worker's script.
+fn ends_or_keeps<W: Threads + Wait + Sync>(
+    rt: &W,
+    alloc: Global,
+    worker: u32,
+) -> Result<bool, Fail> {
+    let came = faulty(rt, alloc, 0, worker, GateFault::Failed)?;
+    let has_ended = came.fault == None && came.text.as_slice() == RESULT;
+    let has_failed = came.fault == Some(PoolFault::Script { worker });
+    Ok((has_ended || has_failed) && is_journal(alloc, &came))
+}
+
+#[test]
+fn ends_or_names_the_worker_whose_script_fails(rt: HostRuntime) -> Result<(), Fail> {
+    for worker in 1..5 {
+        assert!(rt; ends_or_keeps(&rt, rt.alloc(), worker)?);
+    }
     Ok(())
 }
 
@@ -422,6 +492,49 @@ fn kept_count(events: &[Event]) -> u64 {
     count
 }
 
+/// What these workers come to with the verdicts of this journal. The puts of these numbers into their own
+/// fail, from 1.
+fn resumed<G: Gate + Send, W: Threads + Wait + Sync>(
+    rt: &W,
+    alloc: Global,
+    workers: &mut Vec<Worker<G>>,
+    fail: &[u64],
+    journal: &[u8],
+) -> Result<Came, Fail> {
+    let sink = sink_of(alloc, fail)?;
+    let kept = kept_in(alloc, journal)?;
+    run_with(rt, alloc, workers, sink, kept)
+}
+
+/// What so many workers come to whose gates fail at each ask, and how many texts these were asked about.
+fn resumed_failing<W: Threads + Wait + Sync>(
+    rt: &W,
+    alloc: Global,
+    count: u32,
+    fail: &[u64],
+    journal: &[u8],
+) -> Result<(Came, u64), Fail> {
+    let mut workers = failing(alloc, count)?;
+    let came = resumed(rt, alloc, &mut workers, fail, journal)?;
+    Ok((came, asked_in_order(&workers)))
+}
+
+/// Whether a run with the verdicts of this journal has come to the same with these answers, and each record
+/// that isn't kept is of one of so many asks.
+fn is_resumed(
+    alloc: Global,
+    came: &Came,
+    asked: u64,
+    journal: &[u8],
+    answers: &[u8],
+) -> Result<bool, Fail> {
+    let is_whole = is_whole(alloc, came, answers)?;
+    let records = record_count(&came.events, None);
+    let is_asked = records == asked.saturating_add(kept_count(&came.events));
+    let earlier = kept_in(alloc, journal)?;
+    Ok(is_whole && is_asked && are_kept_from(&earlier, &came.events))
+}
+
 /// Whether so many workers with the verdicts of a whole run ask nothing, and come to the same with these
 /// answers.
 fn resumes_without_an_ask<W: Threads + Wait + Sync>(
@@ -431,25 +544,43 @@ fn resumes_without_an_ask<W: Threads + Wait + Sync>(
     journal: &[u8],
     answers: &[u8],
 ) -> Result<bool, Fail> {
-    let mut workers = failing(alloc, count)?;
-    let came = run_with(rt, alloc, &mut workers, &[], kept_in(alloc, journal)?)?;
-    Ok(
-        is_whole(alloc, &came, answers)?
-            && asked_in_order(&workers) == 0
-            && kept_count(&came.events) == record_count(&came.events, None)
-            && are_kept_from(&kept_in(alloc, journal)?, &came.events),
-    )
+    let (came, asked) = resumed_failing(rt, alloc, count, &[], journal)?;
+    let is_resumed = is_resumed(alloc, &came, asked, journal, answers)?;
+    Ok(is_resumed && asked == 0)
+}
+
+/// Whether any number of workers do.
+fn resume_without_an_ask<W: Threads + Wait + Sync>(
+    rt: &W,
+    alloc: Global,
+    journal: &[u8],
+    answers: &[u8],
+) -> Result<bool, Fail> {
+    for count in [1, 2, 4, 16] {
+        if !resumes_without_an_ask(rt, alloc, count, journal, answers)? {
+            return Ok(false);
+        }
+    }
+    Ok(true)
+}
+
+/// Whether they do with the journal of this whole run, and with that in version 1.
+fn resume_after<W: Threads + Wait + Sync>(
+    rt: &W,
+    alloc: Global,
+    whole: &Came,
+) -> Result<(bool, bool), Fail> {
+    let answers = answers_of(alloc, &whole.events)?;
+    let second = resume_without_an_ask(rt, alloc, &whole.journal, &answers)?;
+    let journal = in_version_1(alloc, &whole.journal)?;
+    let first = resume_without_an_ask(rt, alloc, &journal, &answers)?;
+    Ok((second, first))
 }
 
 #[test]
 fn asks_nothing_that_is_kept(rt: HostRuntime) -> Result<(), Fail> {
     let whole = run_of(&rt, rt.alloc(), &mut by_rule(rt.alloc(), 4)?, &[])?;
-    let answers = answers_of(rt.alloc(), &whole.events)?;
-    let first = in_version_1(rt.alloc(), &whole.journal)?;
-    for count in [1, 2, 4, 16] {
-        assert!(rt; resumes_without_an_ask(&rt, rt.alloc(), count, &whole.journal, &answers)?);
-        assert!(rt; resumes_without_an_ask(&rt, rt.alloc(), count, &first, &answers)?);
-    }
+    assert_eq!(rt; resume_after(&rt, rt.alloc(), &whole)?, (true, true));
     Ok(())
 }
 
@@ -462,28 +593,64 @@ fn stops_in_a_recall<W: Threads + Wait + Sync>(
     put: u64,
     journal: &[u8],
 ) -> Result<bool, Fail> {
-    let mut workers = failing(alloc, count)?;
-    let came = run_with(rt, alloc, &mut workers, &[put], kept_in(alloc, journal)?)?;
-    let read = read(alloc, &came.journal)?;
+    let (came, asked) = resumed_failing(rt, alloc, count, &[put], journal)?;
     Ok(
         came.fault == Some(PoolFault::Journal)
             && journal.starts_with(came.journal.as_slice())
-            && are_same(&read.events, &came.events)
-            && asked_in_order(&workers) == 0,
+            && has_events(alloc, &came.journal, &came.events)
+            && asked == 0,
     )
+}
+
+/// Whether these events are whole in the journal, and no others.
+fn has_events(alloc: Global, journal: &[u8], events: &[Event]) -> bool {
+    match read(alloc, journal) {
+        Ok(read) => are_same(&read.events, events),
+        Err(_) => false,
+    }
+}
+
+/// The journal of so many workers, whose gates say yes where there is a `b`. The puts of these numbers fail,
+/// from 1.
+fn left_by<W: Threads + Wait + Sync>(
+    rt: &W,
+    alloc: Global,
+    count: u32,
+    fail: &[u64],
+) -> Result<Vec<u8>, Fail> {
+    let came = run_of(rt, alloc, &mut by_rule(alloc, count)?, fail)?;
+    Ok(came.journal)
+}
+
+/// The journal of one worker, in which all records are kept.
+fn recalled<W: Threads + Wait + Sync>(rt: &W, alloc: Global) -> Result<Vec<u8>, Fail> {
+    let journal = left_by(rt, alloc, 1, &[])?;
+    let (came, _) = resumed_failing(rt, alloc, 1, &[], &journal)?;
+    Ok(came.journal)
 }
 
 #[test]
 fn stops_where_a_recall_breaks_off(rt: HostRuntime) -> Result<(), Fail> {
-    let whole = run_of(&rt, rt.alloc(), &mut by_rule(rt.alloc(), 1)?, &[])?;
-    let kept = kept_in(rt.alloc(), &whole.journal)?;
-    let recalled = run_with(&rt, rt.alloc(), &mut failing(rt.alloc(), 1)?, &[], kept)?;
+    let journal = recalled(&rt, rt.alloc())?;
     for put in 2..15 {
         for count in [1, 2, 16] {
-            assert!(rt; stops_in_a_recall(&rt, rt.alloc(), count, put, &recalled.journal)?);
+            assert!(rt; stops_in_a_recall(&rt, rt.alloc(), count, put, &journal)?);
         }
     }
     Ok(())
+}
+
+/// What so many workers come to whose gates say yes where there is a `b`, and how many texts these were asked
+/// about.
+fn resumed_by_rule<W: Threads + Wait + Sync>(
+    rt: &W,
+    alloc: Global,
+    count: u32,
+    journal: &[u8],
+) -> Result<(Came, u64), Fail> {
+    let mut workers = by_rule(alloc, count)?;
+    let came = resumed(rt, alloc, &mut workers, &[], journal)?;
+    Ok((came, asked_by_rule(&workers)))
 }
 
 /// Whether so many workers go on where the journal of a run broke off, ask once for each record that isn't
@@ -495,16 +662,9 @@ fn goes_on_after<W: Threads + Wait + Sync>(
     put: u64,
     answers: &[u8],
 ) -> Result<bool, Fail> {
-    let broken = run_of(rt, alloc, &mut by_rule(alloc, count)?, &[put])?;
-    let kept = kept_in(alloc, &broken.journal)?;
-    let mut workers = by_rule(alloc, count)?;
-    let came = run_with(rt, alloc, &mut workers, &[], kept)?;
-    let records = record_count(&came.events, None);
-    Ok(
-        is_whole(alloc, &came, answers)?
-            && records == asked_by_rule(&workers).saturating_add(kept_count(&came.events))
-            && are_kept_from(&kept_in(alloc, &broken.journal)?, &came.events),
-    )
+    let journal = left_by(rt, alloc, count, &[put])?;
+    let (came, asked) = resumed_by_rule(rt, alloc, count, &journal)?;
+    is_resumed(alloc, &came, asked, &journal, answers)
 }
 
 #[test]

@@ -7,19 +7,44 @@ use script_gate_trait::{Gate, GateFault, Verdict};
 use std::fs;
 use std::test::Fail;
 
+/// Candidates, each with its verdict. The shell is the script, and each candidate a program for it.
+const ASKED: [(&str, Verdict); 3] = [
+    (
+        "test \"$(tail -n 1 \"$0\")\" = '# last line'\n# last line\n",
+        Verdict::Yes,
+    ),
+    ("false\n", Verdict::No),
+    ("", Verdict::Yes),
+];
+
+/// The number, from 0, of the first candidate with another verdict.
+fn first_other<G: Gate>(gate: &mut G) -> Option<usize> {
+    for (number, (text, verdict)) in ASKED.iter().enumerate() {
+        if gate.ask(text.as_bytes()) != Ok(*verdict) {
+            return Some(number);
+        }
+    }
+    None
+}
+
+/// How a gate over the slow machine is opened; that number; and how it is opened below a file.
+fn by_slow_machine(
+    rt: HostRuntime,
+) -> (Result<(), GateFault>, Option<usize>, Result<(), GateFault>) {
+    let alloc = rt.alloc();
+    let mut slow = ProcessGate::new(SlowMachine::new(rt), alloc);
+    let opened = slow.open("candidates", "/bin/sh", "candidate", 1);
+    let other = first_other(&mut slow);
+    let below_a_file = slow.open("candidates/1/candidate", "/bin/sh", "candidate", 1);
+    (opened, other, below_a_file)
+}
+
 #[test]
 fn a_candidate_is_written_whole(rt: HostRuntime) -> Result<(), Fail> {
-    let mut slow = ProcessGate::new(SlowMachine::new(rt.clone()?), rt.alloc());
-    assert_eq!(rt; slow.open("candidates", "/bin/sh", "candidate", 1), Ok(()));
-    let whole = "test \"$(tail -n 1 \"$0\")\" = '# last line'\n# last line\n";
-    assert_eq!(rt; slow.ask(whole.as_bytes()), Ok(Verdict::Yes));
-    assert_eq!(rt; slow.ask(b"false\n"), Ok(Verdict::No));
-    assert_eq!(rt; slow.ask(b""), Ok(Verdict::Yes));
-    let below_a_file = "candidates/1/candidate";
-    assert_eq!(rt;
-        slow.open(below_a_file, "/bin/sh", "candidate", 1),
-        Err(GateFault::Failed)
-    );
+    let (opened, other, below_a_file) = by_slow_machine(rt.clone()?);
+    assert_eq!(rt; opened, Ok(()));
+    assert_eq!(rt; other, None);
+    assert_eq!(rt; below_a_file, Err(GateFault::Failed));
     assert!(rt;
         holds(&rt, "candidates/1/candidate", ""),
         "an empty candidate is an empty file"
@@ -28,29 +53,62 @@ fn a_candidate_is_written_whole(rt: HostRuntime) -> Result<(), Fail> {
     Ok(())
 }
 
-/// What the gate was doing when it failed last, and the machine's number of the failure.
-fn last_fault(gate: &ProcessGate<HostRuntime>) -> Option<(ScriptCall, Option<i32>)> {
+/// What the gate was doing when it failed, and the machine's number of the failure.
+type Fault = Option<(ScriptCall, Option<i32>)>;
+
+/// The last fault of the gate.
+fn last_fault(gate: &ProcessGate<HostRuntime>) -> Fault {
     let fault = gate.last_fault()?;
     Some((fault.call, fault.error.raw_os_error()))
 }
 
+/// The status of a script that says no by it; none where it goes otherwise.
+fn last_status(gate: &mut ProcessGate<HostRuntime>) -> Option<i32> {
+    if gate.open("ends", "/bin/sh", "candidate", 1) != Ok(()) {
+        return None;
+    }
+    if gate.ask(b"exit 7\n") != Ok(Verdict::No) {
+        return None;
+    }
+    gate.last_end().and_then(|end| end.code())
+}
+
+/// The last fault where the folder is a device; none where it goes otherwise.
+fn folder_fault(gate: &mut ProcessGate<HostRuntime>) -> Fault {
+    if gate.open("/dev/null", "/bin/sh", "candidate", 1) != Err(GateFault::Failed) {
+        return None;
+    }
+    last_fault(gate)
+}
+
+/// The last fault where there is no script; none where it goes otherwise.
+fn script_fault(gate: &mut ProcessGate<HostRuntime>) -> Fault {
+    if gate.open("ends", "no-such-script", "candidate", 1) != Ok(()) {
+        return None;
+    }
+    if gate.ask(b"") != Err(GateFault::Failed) {
+        return None;
+    }
+    last_fault(gate)
+}
+
+/// Whether a gate has no end and no fault at first, and then those, one after another.
+fn kept_by_a_gate(rt: HostRuntime) -> (bool, Option<i32>, Fault, Fault) {
+    let alloc = rt.alloc();
+    let mut gate = ProcessGate::new(rt, alloc);
+    let is_new = gate.last_end().is_none() && gate.last_fault().is_none();
+    let status = last_status(&mut gate);
+    let folder = folder_fault(&mut gate);
+    let script = script_fault(&mut gate);
+    (is_new, status, folder, script)
+}
+
 #[test]
 fn a_gate_keeps_the_last_end_and_the_last_fault(rt: HostRuntime) -> Result<(), Fail> {
-    let mut gate = ProcessGate::new(rt.clone()?, rt.alloc());
-    assert!(rt; gate.last_end().is_none() && gate.last_fault().is_none());
-    assert_eq!(rt; gate.open("ends", "/bin/sh", "candidate", 1), Ok(()));
-    assert_eq!(rt; gate.ask(b"exit 7\n"), Ok(Verdict::No));
-    let end = gate.last_end().and_then(|end| end.code());
-    assert_eq!(rt;
-        gate.open("/dev/null", "/bin/sh", "candidate", 1),
-        Err(GateFault::Failed)
-    );
-    let folder = last_fault(&gate);
-    assert_eq!(rt; gate.open("ends", "no-such-script", "candidate", 1), Ok(()));
-    assert_eq!(rt; gate.ask(b""), Err(GateFault::Failed));
-    let script = last_fault(&gate);
+    let (is_new, status, folder, script) = kept_by_a_gate(rt.clone()?);
     fs::remove_dir_all(&rt, "ends")?;
-    assert_eq!(rt; end, Some(7));
+    assert!(rt; is_new);
+    assert_eq!(rt; status, Some(7));
     assert_eq!(rt; folder, Some((ScriptCall::MakeFolder, Some(20))));
     assert_eq!(rt; script, Some((ScriptCall::RunScript, Some(2))));
     Ok(())

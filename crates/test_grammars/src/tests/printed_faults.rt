@@ -1,5 +1,6 @@
 //! What is printed of the faults of a text.
 
+use faults::{Limit, Memory};
 use grammar_reader_notation::{ReadFault, What};
 use std::test::Fail;
 
@@ -9,6 +10,7 @@ fn faults_print_where_they_are(rt: HostRuntime) -> Result<(), Fail> {
         what: What::NonGreedy,
         offset: 19,
     };
+    let memory = Memory::over(Limit::Numbers, usize::MAX);
     for (fault, text) in [
         (ReadFault::NotUtf8 { offset: 0 }, "not UTF-8 at byte 0"),
         (
@@ -20,7 +22,7 @@ fn faults_print_where_they_are(rt: HostRuntime) -> Result<(), Fail> {
             ReadFault::NestedTooDeep { offset: 76 },
             "nested too deep at byte 76",
         ),
-        (ReadFault::Memory, "out of memory"),
+        (ReadFault::Memory(memory), "out of memory"),
     ] {
         assert_eq!(rt; fault.to_string(rt.alloc())?.as_str(), text);
     }

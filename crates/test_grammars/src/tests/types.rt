@@ -12,18 +12,21 @@ fn ends_at(set: &CharSet, inside: char, last: char, after: char) -> bool {
     set.contains(inside) && set.contains(last) && !set.contains(after)
 }
 
+/// Whether the set has the characters from `a` to `f`. A reversed range adds nothing.
+fn is_a_to_f(set: &CharSet) -> bool {
+    !set.contains('`') && set.contains('a') && ends_at(set, 'e', 'f', 'g') && !set.contains('y')
+}
+
+/// Whether a set of some ranges has those, and its copy does.
+fn union_and_copy(alloc: Global) -> Result<(bool, bool), Memory> {
+    let set = CharSet::new(alloc, &[('d', 'f'), ('z', 'x'), ('a', 'c'), ('b', 'e')])?;
+    let copy = set.copy()?;
+    Ok((is_a_to_f(&set), ends_at(&copy, 'a', 'f', 'g')))
+}
+
 #[test]
 fn a_set_is_the_union_of_its_ranges(rt: HostRuntime) -> Result<(), Fail> {
-    let set = CharSet::new(
-        rt.alloc(),
-        &[('d', 'f'), ('z', 'x'), ('a', 'c'), ('b', 'e')],
-    )?;
-    assert!(rt; !set.contains('`'));
-    assert!(rt; set.contains('a'));
-    assert!(rt; ends_at(&set, 'e', 'f', 'g'));
-    assert!(rt; !set.contains('y'), "a reversed range adds nothing");
-    let copy = set.copy()?;
-    assert!(rt; ends_at(&copy, 'a', 'f', 'g'));
+    assert_eq!(rt; union_and_copy(rt.alloc())?, (true, true));
     Ok(())
 }
 
@@ -36,17 +39,36 @@ fn a_set_over_the_surrogates_has_the_characters_beside_them(rt: HostRuntime) -> 
     Ok(())
 }
 
+/// The letters and the digits.
+fn letters_and_digits(alloc: Global) -> Result<CharSet, Memory> {
+    let letters = CharSet::new(alloc, &[('a', 'z')])?;
+    let digits = CharSet::new(alloc, &[('0', '9')])?;
+    letters.union(&digits)
+}
+
+/// Whether the set ends with the digits and with the letters.
+fn has_both(set: &CharSet) -> bool {
+    ends_at(set, '0', '9', ':') && ends_at(set, 'a', 'z', '{')
+}
+
+/// Whether the set has what is before, between and after those.
+fn has_others(set: &CharSet) -> bool {
+    ends_at(set, '\0', '/', '0')
+        && ends_at(set, ':', '`', 'a')
+        && set.contains('{')
+        && set.contains('\u{10FFFF}')
+}
+
+/// Whether a union has both, and its complement the rest.
+fn union_and_complement(alloc: Global) -> Result<(bool, bool), Memory> {
+    let both = letters_and_digits(alloc)?;
+    let others = both.complement()?;
+    Ok((has_both(&both), has_others(&others)))
+}
+
 #[test]
 fn a_union_has_both_and_a_complement_the_rest(rt: HostRuntime) -> Result<(), Fail> {
-    let letters = CharSet::new(rt.alloc(), &[('a', 'z')])?;
-    let digits = CharSet::new(rt.alloc(), &[('0', '9')])?;
-    let both = letters.union(&digits)?;
-    assert!(rt; ends_at(&both, '0', '9', ':'));
-    assert!(rt; ends_at(&both, 'a', 'z', '{'));
-    let others = both.complement()?;
-    assert!(rt; ends_at(&others, '\0', '/', '0'));
-    assert!(rt; ends_at(&others, ':', '`', 'a'));
-    assert!(rt; others.contains('{') && others.contains('\u{10FFFF}'));
+    assert_eq!(rt; union_and_complement(rt.alloc())?, (true, true));
     Ok(())
 }
 
@@ -118,14 +140,24 @@ fn shape(rule: &Rule) -> (bool, usize, usize) {
     }
 }
 
+/// Whether the grammar is named and shaped as the small one.
+fn is_small(grammar: &Grammar) -> bool {
+    grammar.name.as_str() == "G"
+        && grammar.tokens.len() == 1
+        && grammar.rules.len() == 2
+        && shape(&grammar.rules[0]) == (false, 1, 2)
+        && shape(&grammar.rules[1]) == (true, 1, 3)
+}
+
+/// A copy of the small grammar.
+fn copied_grammar(alloc: Global) -> Result<Grammar, Memory> {
+    small_grammar(alloc)?.copy(alloc)
+}
+
 #[test]
 fn a_copy_has_the_same_rules(rt: HostRuntime) -> Result<(), Fail> {
-    let copy = small_grammar(rt.alloc())?.copy(rt.alloc())?;
-    assert_eq!(rt; copy.name.as_str(), "G");
-    assert_eq!(rt; copy.tokens.len(), 1);
-    assert_eq!(rt; copy.rules.len(), 2);
-    assert_eq!(rt; shape(&copy.rules[0]), (false, 1, 2));
-    assert_eq!(rt; shape(&copy.rules[1]), (true, 1, 3));
+    let copy = copied_grammar(rt.alloc())?;
+    assert!(rt; is_small(&copy));
     Ok(())
 }
 

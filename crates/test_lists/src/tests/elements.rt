@@ -64,47 +64,53 @@ impl Test for Needs {
     }
 }
 
-/// Whether the machine asks what the plain recursion asked, and ends with the same.
-fn agrees<T: Test>(alloc: Global, test: &T, len: u32, may_be_empty: bool) -> Result<bool, Memory> {
-    let plain = plain_list_step(alloc, test, len, may_be_empty)?;
-    let mut machine = Ddmin::new(alloc, len, may_be_empty)?;
-    for question in &plain.questions {
+/// Whether the machine asks these questions, where the test answers each, and then no more.
+fn asks_these<T: Test>(machine: &mut Ddmin, test: &T, questions: &[Vec<bool>]) -> bool {
+    for question in questions {
         let Some(asked) = machine.asks() else {
-            return Ok(false);
+            return false;
         };
         if asked != question.as_slice() {
-            return Ok(false);
+            return false;
         }
         let yes = test.test(asked);
         machine.answer(yes);
     }
-    Ok(machine.asks().is_none() && machine.kept() == plain.result.as_slice())
+    machine.asks().is_none()
+}
+
+/// Whether the machine asks what the plain recursion asked, and ends with the same.
+fn agrees<T: Test>(alloc: Global, test: &T, len: u32, may_be_empty: bool) -> Result<bool, Memory> {
+    let plain = plain_list_step(alloc, test, len, may_be_empty)?;
+    let mut machine = Ddmin::new(alloc, len, may_be_empty)?;
+    let asks_these = asks_these(&mut machine, test, &plain.questions);
+    Ok(asks_these && machine.kept() == plain.result.as_slice())
+}
+
+/// Whether they agree on lists of so many elements by each rule with this number.
+fn agrees_by_rules(alloc: Global, len: u32, may_be_empty: bool, a: usize) -> Result<bool, Memory> {
+    for b in 0..9usize {
+        if !agrees(alloc, &AllOf(a, b, b), len, may_be_empty)?
+            || !agrees(alloc, &Needs(a, b), len, may_be_empty)?
+        {
+            return Ok(false);
+        }
+    }
+    Ok(
+        agrees(alloc, &AtLeast(a), len, may_be_empty)?
+            && agrees(alloc, &Remainder(a), len, may_be_empty)?,
+    )
 }
 
 #[test]
 fn asks_what_the_plain_recursion_asks(rt: HostRuntime) -> Result<(), Fail> {
-    let alloc = rt.alloc();
     for len in 0..9u32 {
         for may_be_empty in [false, true] {
             for a in 0..9usize {
                 assert!(rt;
-                    agrees(alloc, &AtLeast(a), len, may_be_empty)?,
-                    "at least {a} of {len}"
+                    agrees_by_rules(rt.alloc(), len, may_be_empty, a)?,
+                    "a rule with {a} of {len}"
                 );
-                assert!(rt;
-                    agrees(alloc, &Remainder(a), len, may_be_empty)?,
-                    "remainder {a} of {len}"
-                );
-                for b in 0..9usize {
-                    assert!(rt;
-                        agrees(alloc, &AllOf(a, b, b), len, may_be_empty)?,
-                        "{a} and {b} of {len}"
-                    );
-                    assert!(rt;
-                        agrees(alloc, &Needs(a, b), len, may_be_empty)?,
-                        "{a} needs {b} of {len}"
-                    );
-                }
             }
         }
     }
@@ -125,29 +131,45 @@ fn answers<T: Test>(test: &T, machine: &mut Ddmin) -> u32 {
     count
 }
 
+/// The first and the last of four.
+const OUTER: [bool; 4] = [true, false, false, true];
+
+/// How many questions the machine asks of four elements, and whether it keeps the first and the last.
+fn outer_by_machine(alloc: Global) -> Result<(u32, bool), Memory> {
+    let mut machine = Ddmin::new(alloc, 4, true)?;
+    let count = answers(&AllOf(0, 3, 3), &mut machine);
+    Ok((count, machine.kept() == OUTER.as_slice()))
+}
+
+/// How many the plain recursion asks, and whether it keeps these.
+fn outer_by_recursion(alloc: Global) -> Result<(usize, bool), Memory> {
+    let plain = plain_list_step(alloc, &AllOf(0, 3, 3), 4, true)?;
+    Ok((
+        plain.questions.len(),
+        plain.result.as_slice() == OUTER.as_slice(),
+    ))
+}
+
 #[test]
 fn keeps_the_first_and_the_last_of_four(rt: HostRuntime) -> Result<(), Fail> {
-    let test = AllOf(0, 3, 3);
-    let mut machine = Ddmin::new(rt.alloc(), 4, true)?;
-    assert_eq!(rt; answers(&test, &mut machine), 20);
-    assert!(rt; machine.kept() == [true, false, false, true].as_slice());
-    let plain = plain_list_step(rt.alloc(), &test, 4, true)?;
-    assert_eq!(rt; plain.questions.len(), 20);
-    assert!(rt; plain.result.as_slice() == [true, false, false, true].as_slice());
+    assert_eq!(rt; outer_by_machine(rt.alloc())?, (20, true));
+    assert_eq!(rt; outer_by_recursion(rt.alloc())?, (20, true));
     Ok(())
+}
+
+/// How many questions the machine asks of nine elements; whether it keeps the three that are needed; and
+/// whether its copy, which goes on by its own answers, still keeps all.
+fn three_of_nine(alloc: Global) -> Result<(u32, bool, bool), Memory> {
+    let mut machine = Ddmin::new(alloc, 9, false)?;
+    let copy = machine.copy()?;
+    let count = answers(&AllOf(1, 4, 5), &mut machine);
+    let needed = [false, true, false, false, true, true, false, false, false];
+    let keeps_needed = machine.kept() == needed.as_slice();
+    Ok((count, keeps_needed, copy.kept() == [true; 9].as_slice()))
 }
 
 #[test]
 fn keeps_three_of_nine(rt: HostRuntime) -> Result<(), Fail> {
-    let test = AllOf(1, 4, 5);
-    let mut machine = Ddmin::new(rt.alloc(), 9, false)?;
-    let copy = machine.copy()?;
-    assert_eq!(rt; answers(&test, &mut machine), 31);
-    let needed = [false, true, false, false, true, true, false, false, false];
-    assert!(rt; machine.kept() == needed.as_slice());
-    assert!(rt;
-        copy.kept() == [true; 9].as_slice(),
-        "the copy goes on by its own answers"
-    );
+    assert_eq!(rt; three_of_nine(rt.alloc())?, (31, true, true));
     Ok(())
 }

@@ -5,7 +5,7 @@ use crate::guards::{KeepsLine, guard_of};
 use faults::Memory;
 use keep_guard::{Guard, Relation};
 use reduce_core::{
-    Candidate, LineReducer, Lines, ReducerStep, Test, line_reducer, plain_reduction,
+    Candidate, LineReducer, Lines, ReducerStep, Reduction, Test, line_reducer, plain_reduction,
 };
 use reduce_step::{Step, TEXT_LIMIT};
 use script_gate_trait::Verdict;
@@ -68,10 +68,18 @@ fn agrees<T: Test, F: Relation>(
     let mut reducer = line_reducer(alloc, start, guard)?;
     let questions = questions_of(alloc, test, &mut reducer)?;
     let plain = plain_reduction(alloc, test, guard, start)?;
+    Ok(are_same(&questions, &plain.questions) && ends_like(alloc, &reducer, &plain)?)
+}
+
+/// Whether the reducer has come to the same as the plain recursion.
+fn ends_like<F: Relation>(
+    alloc: Global,
+    reducer: &LineReducer<'_, F>,
+    plain: &Reduction,
+) -> Result<bool, Memory> {
     let text = text_of(alloc, &plain.lines)?;
     Ok(
-        are_same(&questions, &plain.questions)
-            && reducer.result() == text.as_slice()
+        reducer.result() == text.as_slice()
             && reducer.units() == plain.lines.len() as u64
             && reducer.used() == plain.questions.len() as u64
             && reducer.rounds() == plain.rounds
@@ -158,21 +166,59 @@ fn asks_what_the_plain_recursion_asks(rt: HostRuntime) -> Result<(), Fail> {
     Ok(())
 }
 
-/// Whether the plain recursion asks these texts, keeps the line that is needed, and so ends.
-fn plain_keeps_b(alloc: Global) -> Result<bool, Memory> {
-    let guard = guard_of(alloc, &[])?;
-    let plain = plain_reduction(alloc, &HasBoth(b'b', b'b'), &guard, b"a\nb\nc\n")?;
-    let asked = match plain.questions.get(3) {
+/// Whether the lines are this text.
+fn are_text(alloc: Global, lines: &Lines, wanted: &[u8]) -> Result<bool, Memory> {
+    let text = text_of(alloc, lines)?;
+    Ok(text.as_slice() == wanted)
+}
+
+/// Whether a reduction asks these texts, keeps the line that is needed, and so ends.
+fn keeps_b(alloc: Global, found: &Reduction) -> Result<bool, Memory> {
+    let asked = match found.questions.get(3) {
         Some(question) => question.as_slice() == b"b\nc\n".as_slice(),
         None => false,
     };
-    let text = text_of(alloc, &plain.lines)?;
+    let is_so = asked && found.questions.len() == 6 && found.rounds == 2 && !found.refused;
+    Ok(is_so && are_text(alloc, &found.lines, b"b\n")?)
+}
+
+/// Whether the plain recursion does.
+fn plain_keeps_b(alloc: Global) -> Result<bool, Memory> {
+    let guard = guard_of(alloc, &[])?;
+    let plain = plain_reduction(alloc, &HasBoth(b'b', b'b'), &guard, b"a\nb\nc\n")?;
+    keeps_b(alloc, &plain)
+}
+
+/// The first line and the last of three.
+const OUTER: [bool; 3] = [true, false, true];
+
+/// Whether the lines are three, of which the first and the last are kept as lines.
+fn keeps_lines(alloc: Global, lines: &Lines) -> Result<bool, Memory> {
+    if lines.len() != OUTER.len() {
+        return Ok(false);
+    }
+    let remaining = lines.kept(alloc, &OUTER)?;
+    Ok(remaining.len() == 2 && are_text(alloc, &remaining, b"a\nb")?)
+}
+
+/// A candidate that has something already.
+fn used_candidate(alloc: Global) -> Result<Candidate, Memory> {
+    let mut candidate = Candidate::new(alloc);
+    candidate.text.push(b'x')?;
+    candidate.numbers.push(7)?;
+    Ok(candidate)
+}
+
+/// Whether the lines are three, of which the first and the last are kept as a text and as numbers.
+fn writes_lines(alloc: Global, lines: &Lines) -> Result<bool, Memory> {
+    if lines.len() != OUTER.len() {
+        return Ok(false);
+    }
+    let mut candidate = used_candidate(alloc)?;
+    lines.write_kept(&OUTER, &mut candidate)?;
     Ok(
-        asked
-            && plain.questions.len() == 6
-            && text.as_slice() == b"b\n".as_slice()
-            && plain.rounds == 2
-            && !plain.refused,
+        candidate.text.as_slice() == b"a\nb".as_slice()
+            && candidate.numbers.as_slice() == [0, 2].as_slice(),
     )
 }
 
@@ -180,22 +226,7 @@ fn plain_keeps_b(alloc: Global) -> Result<bool, Memory> {
 /// as lines.
 fn keeps_outer_lines(alloc: Global) -> Result<bool, Memory> {
     let lines = Lines::split(alloc, b"a\n\nb")?;
-    let keep = [true, false, true];
-    if lines.len() != 3 {
-        return Ok(false);
-    }
-    let remaining = lines.kept(alloc, &keep)?;
-    let text = text_of(alloc, &remaining)?;
-    let mut candidate = Candidate::new(alloc);
-    candidate.text.push(b'x')?;
-    candidate.numbers.push(7)?;
-    lines.write_kept(&keep, &mut candidate)?;
-    Ok(
-        remaining.len() == 2
-            && text.as_slice() == b"a\nb".as_slice()
-            && candidate.text.as_slice() == b"a\nb".as_slice()
-            && candidate.numbers.as_slice() == [0, 2].as_slice(),
-    )
+    Ok(keeps_lines(alloc, &lines)? && writes_lines(alloc, &lines)?)
 }
 
 #[test]

@@ -4,30 +4,45 @@ use super::answering::answer_all;
 use super::byte_round::byte_reducer;
 use super::looking::{Ahead, looks_ahead, looks_ahead_so};
 use super::trees::parts_of;
+use faults::Memory;
 use keep_guard::{Guard, KeepTexts};
 use reduce_core::line_reducer;
-use reduce_trees::{hdd_reducer, perses_reducer};
+use reduce_rounds::{Round, Rounds};
+use reduce_step::TreeMode;
+use reduce_trees::{TreeParts, hdd_reducer, perses_reducer};
 use script_gate_trait::Verdict;
 use std::alloc::Global;
 use std::test::Fail;
 use test_grammars::grammars::STATEMENTS;
 
-/// Whether that is ahead of a text's reducer in mode `perses`.
-fn in_mode_perses(alloc: Global, text: &str, ahead: Ahead<'_>) -> Result<bool, Fail> {
-    let Some(parts) = parts_of(alloc, STATEMENTS, text)? else {
-        return Ok(false);
-    };
-    let mut reducer = perses_reducer(alloc, &parts)?;
-    Ok(looks_ahead_so(&mut reducer, ahead)?)
+/// Whether that is ahead of the reducer.
+fn reducer_looks<R: Round + Drop>(
+    mut reducer: Rounds<R>,
+    ahead: Ahead<'_>,
+) -> Result<bool, Memory> {
+    looks_ahead_so(&mut reducer, ahead)
 }
 
-/// Whether that is ahead of a text's reducer in mode `hdd`.
-fn in_mode_hdd(alloc: Global, text: &str, ahead: Ahead<'_>) -> Result<bool, Fail> {
-    let Some(parts) = parts_of(alloc, STATEMENTS, text)? else {
-        return Ok(false);
+/// Whether that is ahead of the parts' reducer in this mode.
+fn parts_look(
+    alloc: Global,
+    parts: &TreeParts<KeepTexts<'_>>,
+    mode: TreeMode,
+    ahead: Ahead<'_>,
+) -> Result<bool, Memory> {
+    match mode {
+        TreeMode::Perses => reducer_looks(perses_reducer(alloc, parts)?, ahead),
+        TreeMode::Hdd => reducer_looks(hdd_reducer(alloc, parts)?, ahead),
+    }
+}
+
+/// Whether that is ahead of a text's reducer in this mode.
+fn looks_so(alloc: Global, mode: TreeMode, text: &str, ahead: Ahead<'_>) -> Result<bool, Fail> {
+    let looks = match parts_of(alloc, STATEMENTS, text)? {
+        Some(parts) => parts_look(alloc, &parts, mode, ahead),
+        None => Ok(false),
     };
-    let mut reducer = hdd_reducer(alloc, &parts)?;
-    Ok(looks_ahead_so(&mut reducer, ahead)?)
+    Ok(looks?)
 }
 
 /// Of statements, in both modes.
@@ -55,10 +70,15 @@ const BY_HDD: Ahead<'static> = Ahead {
 /// `hdd`.
 #[test]
 fn looks_ahead_in_modes_of_trees(rt: HostRuntime) -> Result<(), Fail> {
-    assert!(rt; in_mode_perses(rt.alloc(), "a=1;b=2;c=3;", OF_STATEMENTS)?);
-    assert!(rt; in_mode_hdd(rt.alloc(), "a=1;b=2;c=3;", OF_STATEMENTS)?);
-    assert!(rt; in_mode_perses(rt.alloc(), "{{a=1;}}", BY_PERSES)?);
-    assert!(rt; in_mode_hdd(rt.alloc(), "{{a=1;}}", BY_HDD)?);
+    let rows = [
+        (TreeMode::Perses, "a=1;b=2;c=3;", OF_STATEMENTS),
+        (TreeMode::Hdd, "a=1;b=2;c=3;", OF_STATEMENTS),
+        (TreeMode::Perses, "{{a=1;}}", BY_PERSES),
+        (TreeMode::Hdd, "{{a=1;}}", BY_HDD),
+    ];
+    for (mode, text, ahead) in rows {
+        assert!(rt; looks_so(rt.alloc(), mode, text, ahead)?);
+    }
     Ok(())
 }
 
@@ -71,8 +91,8 @@ const OF_LINES: Ahead<'static> = Ahead {
 /// Whether that is ahead of three lines' reducer.
 fn in_mode_lines(alloc: Global) -> Result<bool, Fail> {
     let guard = Guard::new(KeepTexts::new(alloc));
-    let mut reducer = line_reducer(alloc, b"a\nb\nc\n", &guard)?;
-    Ok(looks_ahead_so(&mut reducer, OF_LINES)?)
+    let reducer = line_reducer(alloc, b"a\nb\nc\n", &guard)?;
+    Ok(reducer_looks(reducer, OF_LINES)?)
 }
 
 #[test]
@@ -87,12 +107,17 @@ const OVER_ROUNDS: [&[u8]; 9] = [
     b"b\n", b"c\n", b"c\n", b"b\n", b"", b"b\n", b"c\n", b"c\n", b"b\n",
 ];
 
-/// Whether that is ahead of three lines' reducer after these answers.
+/// Whether that is ahead of the reducer after these answers.
+fn looks_over_rounds<R: Round + Drop>(mut reducer: Rounds<R>) -> Result<bool, Memory> {
+    answer_all(&mut reducer, &FIRST_ANSWERS)?;
+    looks_ahead(&reducer, 20, &OVER_ROUNDS)
+}
+
+/// Whether it is for three lines' reducer.
 fn over_rounds(alloc: Global) -> Result<bool, Fail> {
     let guard = Guard::new(KeepTexts::new(alloc));
-    let mut reducer = line_reducer(alloc, b"a\nb\nc\n", &guard)?;
-    answer_all(&mut reducer, &FIRST_ANSWERS)?;
-    Ok(looks_ahead(&reducer, 20, &OVER_ROUNDS)?)
+    let reducer = line_reducer(alloc, b"a\nb\nc\n", &guard)?;
+    Ok(looks_over_rounds(reducer)?)
 }
 
 /// In the second half the second round begins, which asks the empty text again.

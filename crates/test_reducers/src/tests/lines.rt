@@ -4,6 +4,7 @@ use super::answering::{answers, has_ended_with};
 use faults::Memory;
 use keep_guard::{Guard, Relation};
 use reduce_core::{LineReducer, line_reducer};
+use reduce_rounds::{Round, Rounds};
 use reduce_step::TEXT_LIMIT;
 use script_gate_trait::Verdict;
 use std::alloc::Global;
@@ -35,10 +36,15 @@ struct Run<'a>(
 
 /// Whether the reducer with this guard runs so.
 fn runs_so<F: Relation>(alloc: Global, run: &Run<'_>, guard: &Guard<F>) -> Result<bool, Memory> {
-    let Run(start, texts, remaining, counts) = *run;
-    let Some(mut reducer) = reducer_of(alloc, start.as_bytes(), guard)? else {
-        return Ok(false);
-    };
+    match reducer_of(alloc, run.0.as_bytes(), guard)? {
+        Some(reducer) => is_run_of(reducer, run),
+        None => Ok(false),
+    }
+}
+
+/// Whether a reducer of the run's start runs so.
+fn is_run_of<R: Round + Drop>(mut reducer: Rounds<R>, run: &Run<'_>) -> Result<bool, Memory> {
+    let Run(_, texts, remaining, counts) = *run;
     for (text, yes) in texts {
         let verdict = if *yes { Verdict::Yes } else { Verdict::No };
         if !answers(&mut reducer, text.as_bytes(), verdict)? {

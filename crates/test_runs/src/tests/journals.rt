@@ -6,8 +6,7 @@ ghost use Rattle.reduce_journal.specs.History.{HasShortText};
 use edge_io::MemSink;
 use faults::Memory;
 use reduce_journal::{
-    Counts, Digest, Event, Journal, JournalFault, digest_of, read_journal, report, write_event,
-    write_head,
+    Counts, Event, Journal, JournalFault, digest_of, read_journal, report, write_event, write_head,
 };
 use reduce_step::TEXT_LIMIT;
 use script_gate_trait::{Bytes, Verdict};
@@ -167,6 +166,12 @@ fn whole_events(cut: usize) -> (usize, usize) {
     whole
 }
 
+/// Whether these bytes are read as the rows and so many torn bytes.
+fn is_read_as(alloc: Global, bytes: &[u8], rows: &[Row], torn: usize) -> Result<bool, Fail> {
+    let journal = read(alloc, bytes)??;
+    Ok(are_events(&journal.events, rows) && journal.torn == torn as u64)
+}
+
 /// Whether these bytes, of a whole head and so many after it, are read as what is whole of those and as so
 /// many torn bytes.
 fn is_read_up_to(alloc: Global, begun: &[u8], after_head: usize) -> Result<bool, Fail> {
@@ -174,8 +179,7 @@ fn is_read_up_to(alloc: Global, begun: &[u8], after_head: usize) -> Result<bool,
     let Some(rows) = HISTORY.get(..events) else {
         return Ok(false);
     };
-    let journal = read(alloc, begun)??;
-    Ok(are_events(&journal.events, rows) && journal.torn == after_head.abs_diff(end) as u64)
+    is_read_as(alloc, begun, rows, after_head.abs_diff(end))
 }
 
 /// The first cut up to which the journal with a head of so many bytes is read otherwise: what has no whole
@@ -184,7 +188,7 @@ fn first_other_cut(alloc: Global, whole: &[u8], head: usize) -> Result<Option<us
     for cut in 0..whole.len() + 1 {
         let begun = &whole[..cut];
         let is_right = if cut < head {
-            read(alloc, begun)?.err() == Some(JournalFault::BadHead)
+            lacks_head(alloc, begun)?
         } else {
             is_read_up_to(alloc, begun, cut - head)?
         };
@@ -202,28 +206,36 @@ fn reads_the_worked_journal_up_to_each_cut(rt: HostRuntime) -> Result<(), Fail> 
     Ok(())
 }
 
-/// The version and the start of a journal.
-fn headed(alloc: Global, bytes: &[u8]) -> Result<(u32, Option<Digest>), Fail> {
-    let journal = read(alloc, bytes)??;
-    Ok((journal.version, journal.start))
-}
-
 /// The journal of a run over an empty start, of 95 bytes.
 const EMPTY_START: &[u8] = b"perses-journal 2\n\
     S e3b0c44298fc1c149afbf4c8996fb92427ae41e4649b934ca495991b7852b855\nR y 0\n\nC 1\n";
 
+/// Journals with their version and their start, if that is known.
+const HEADED: [(&[u8], u32, Option<&[u8]>); 6] = [
+    (JOURNAL, 2, Some(START)),
+    (HEAD, 2, Some(START)),
+    (JOURNAL_1, 1, Some(START)),
+    (BEGIN, 1, None),
+    (b"perses-journal 1\nR y 2\na", 1, None),
+    (EMPTY_START, 2, Some(b"")),
+];
+
+/// Whether the journal has this version and the digest of this start.
+fn is_headed(
+    alloc: Global,
+    bytes: &[u8],
+    version: u32,
+    start: Option<&[u8]>,
+) -> Result<bool, Fail> {
+    let journal = read(alloc, bytes)??;
+    Ok(journal.version == version && journal.start == start.map(|text| digest_of(text)))
+}
+
 #[test]
 fn knows_the_start(rt: HostRuntime) -> Result<(), Fail> {
-    let start = digest_of(START);
-    assert_eq!(rt; headed(rt.alloc(), JOURNAL)?, (2, Some(start)));
-    assert_eq!(rt; headed(rt.alloc(), HEAD)?, (2, Some(start)));
-    assert_eq!(rt; headed(rt.alloc(), JOURNAL_1)?, (1, Some(start)));
-    assert_eq!(rt; headed(rt.alloc(), BEGIN)?, (1, None));
-    assert_eq!(rt;
-        headed(rt.alloc(), b"perses-journal 1\nR y 2\na")?,
-        (1, None)
-    );
-    assert_eq!(rt; headed(rt.alloc(), EMPTY_START)?, (2, Some(digest_of(b""))));
+    for (bytes, version, start) in HEADED.iter() {
+        assert!(rt; is_headed(rt.alloc(), *bytes, *version, *start)?);
+    }
     Ok(())
 }
 
@@ -240,10 +252,15 @@ const NO_HEADS: [&[u8]; 9] = [
     b"perses-journal 2\nS fe55d574c397b7713a66bb55be32810164343b436e7529075844e43fce81c64g\n",
 ];
 
+/// Whether the bytes have no head.
+fn lacks_head(alloc: Global, bytes: &[u8]) -> Result<bool, Fail> {
+    Ok(read(alloc, bytes)?.err() == Some(JournalFault::BadHead))
+}
+
 #[test]
 fn refuses_what_is_no_head(rt: HostRuntime) -> Result<(), Fail> {
-    for bytes in NO_HEADS {
-        assert_eq!(rt; read(rt.alloc(), bytes)?.err(), Some(JournalFault::BadHead));
+    for bytes in NO_HEADS.iter() {
+        assert!(rt; lacks_head(rt.alloc(), *bytes)?);
     }
     Ok(())
 }
@@ -273,8 +290,8 @@ const TORN: [&[u8]; 16] = [
     b"R n 12\nC 1\nC 2\nR n",
 ];
 
-/// What is bad there.
-const BAD: [&[u8]; 17] = [
+/// What is bad there; the last one is the worked run's events with a changed byte.
+const BAD: [&[u8]; 18] = [
     b"C",
     b"C 1\n",
     b"R x",
@@ -292,6 +309,7 @@ const BAD: [&[u8]; 17] = [
     b"R y 1\r\n",
     b"r y 0\n\n",
     b"\n",
+    b"R z 12\na=1;b=2;c=3;\nC 1\nR n 0\n\nC 2\nR n 5\na=1;\n\nC 3\nR y 8\nb=2;c=3;\nC 4\nR y 5\nb=2;\n\nC 5\nC 2\n",
 ];
 
 /// What is torn after the head of version 2, and bad after that of version 1.
@@ -393,12 +411,21 @@ fn others(alloc: Global, head: &[u8], record: &[u8]) -> Result<[Option<usize>; 5
 const ONE_KEPT: &[u8] = b"perses-journal 2\n\
     S fe55d574c397b7713a66bb55be32810164343b436e7529075844e43fce81c64e\nK y 0\n\n";
 
+/// Of the tails that only version 2 takes, the number of the first that is read otherwise after the head of
+/// version 1, and after that of version 2.
+fn other_kept(alloc: Global) -> Result<(Option<usize>, Option<usize>), Fail> {
+    Ok((
+        first_not_bad(alloc, BEGIN, &TORN_KEPT)?,
+        first_not_torn(alloc, HEAD, 0, &TORN_KEPT)?,
+    ))
+}
+
 #[test]
 fn parts_torn_tails_from_bad_records(rt: HostRuntime) -> Result<(), Fail> {
-    assert_eq!(rt; others(rt.alloc(), BEGIN, ONE_RECORD)?, [None; 5]);
-    assert_eq!(rt; others(rt.alloc(), HEAD, ONE_KEPT)?, [None; 5]);
-    assert_eq!(rt; first_not_bad(rt.alloc(), BEGIN, &TORN_KEPT)?, None);
-    assert_eq!(rt; first_not_torn(rt.alloc(), HEAD, 0, &TORN_KEPT)?, None);
+    for (head, record) in [(BEGIN, ONE_RECORD), (HEAD, ONE_KEPT)] {
+        assert_eq!(rt; others(rt.alloc(), head, record)?, [None; 5]);
+    }
+    assert_eq!(rt; other_kept(rt.alloc())?, (None, None));
     Ok(())
 }
 
@@ -415,13 +442,17 @@ const RESUMED_JOURNAL: &[u8] = b"perses-journal 2\n\
     S fe55d574c397b7713a66bb55be32810164343b436e7529075844e43fce81c64e\n\
     K y 12\na=1;b=2;c=3;\nC 1\nR n 0\n\nK n 1\n\n\n";
 
+/// Whether the head and the rows are put as these bytes.
+fn are_put_as(alloc: Global, rows: &[Row], bytes: &[u8]) -> Result<bool, Fail> {
+    let mut sink = MemSink::new(alloc, 1000, Vec::new(alloc))?;
+    let came = written(&mut sink, alloc, rows)?;
+    Ok(came == rows.len() && sink.bytes() == bytes)
+}
+
 #[test]
 fn writes_and_reads_kept_records(rt: HostRuntime) -> Result<(), Fail> {
-    let mut sink = MemSink::new(rt.alloc(), 1000, Vec::new(rt.alloc()))?;
-    assert_eq!(rt; written(&mut sink, rt.alloc(), &RESUMED)?, 4);
-    assert!(rt; sink.bytes() == RESUMED_JOURNAL);
-    let journal = read(rt.alloc(), RESUMED_JOURNAL)??;
-    assert!(rt; are_events(&journal.events, &RESUMED));
+    assert!(rt; are_put_as(rt.alloc(), &RESUMED, RESUMED_JOURNAL)?);
+    assert!(rt; is_read_as(rt.alloc(), RESUMED_JOURNAL, &RESUMED, 0)?);
     Ok(())
 }
 
@@ -442,21 +473,47 @@ const TWICE_EVENTS: [Row; 3] = [
 
 #[test]
 fn keeps_any_bytes_and_texts_that_come_twice(rt: HostRuntime) -> Result<(), Fail> {
-    let journal = read(rt.alloc(), TWICE)??;
-    assert_eq!(rt; journal.torn, 0);
-    assert!(rt; are_events(&journal.events, &TWICE_EVENTS));
+    assert!(rt; is_read_as(rt.alloc(), TWICE, &TWICE_EVENTS, 0)?);
     Ok(())
+}
+
+/// What is kept of that journal: of each text the verdict, if there is one.
+const TWICE_KEPT: [(&[u8], Option<Verdict>); 2] = [(b"\n\xFFC", Some(Verdict::No)), (b"\n", None)];
+
+/// What is kept of the resumed run.
+const RESUMED_KEPT: [(&[u8], Option<Verdict>); 3] = [
+    (START, Some(Verdict::Yes)),
+    (b"", Some(Verdict::No)),
+    (b"\n", Some(Verdict::No)),
+];
+
+/// The number, from 0, of the first text of which the journal keeps something else.
+fn first_kept_otherwise(
+    alloc: Global,
+    journal: &[u8],
+    rows: &[(&[u8], Option<Verdict>)],
+) -> Result<Option<usize>, Fail> {
+    let kept = kept_in(alloc, journal)?;
+    Ok(first_not_found(&kept, rows))
+}
+
+/// The number, from 0, of the first text that isn't found with its verdict.
+fn first_not_found(kept: &Kept, rows: &[(&[u8], Option<Verdict>)]) -> Option<usize> {
+    for (number, (text, verdict)) in rows.iter().enumerate() {
+        if kept.find(*text) != *verdict {
+            return Some(number);
+        }
+    }
+    None
 }
 
 #[test]
 fn keeps_the_first_record_of_a_text(rt: HostRuntime) -> Result<(), Fail> {
-    let kept = kept_in(rt.alloc(), TWICE)?;
-    assert_eq!(rt; kept.find(b"\n\xFFC"), Some(Verdict::No));
-    assert_eq!(rt; kept.find(b"\n"), None);
-    let kept = kept_in(rt.alloc(), RESUMED_JOURNAL)?;
-    assert_eq!(rt; kept.find(START), Some(Verdict::Yes));
-    assert_eq!(rt; kept.find(b""), Some(Verdict::No));
-    assert_eq!(rt; kept.find(b"\n"), Some(Verdict::No));
+    assert_eq!(rt; first_kept_otherwise(rt.alloc(), TWICE, &TWICE_KEPT)?, None);
+    assert_eq!(rt;
+        first_kept_otherwise(rt.alloc(), RESUMED_JOURNAL, &RESUMED_KEPT)?,
+        None
+    );
     Ok(())
 }
 

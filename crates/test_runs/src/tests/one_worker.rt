@@ -1,10 +1,12 @@
 //! Runs of one worker over the reduction of `a=1;b=2;c=3;`, statement by statement. Where nothing ends it
 //! before its time, and yes is the answer if there is a `b`, its journal is the worked one.
 
+ghost use Rattle.std.specs.Prelude.{◌≡◌, [], IfOk, IfSome};
+
 use super::journals::{HEAD, JOURNAL, JOURNAL_1, START, kept_in, read};
 use super::outcomes::has_come_to;
 use crate::small_step::SmallStep;
-use edge_io::MemSink;
+use edge_io::{MemSink, Sink};
 use faults::Memory;
 use gate_permits::Texts;
 use ordered_commit::{Board, BoardFault, Outcome, PoolFault, Refused};
@@ -20,6 +22,18 @@ use verdict_table::Kept;
 /// What a run comes to, or what is handed back where there is no board.
 type Came = Result<Outcome<SmallStep, MemSink>, Refused<SmallStep, MemSink>>;
 
+/// A journal that takes so many bytes, and whose puts of these numbers fail, from 1.
+fn sink_of(alloc: Global, size: u64, fail: &[u64]) -> Result<MemSink, Memory>
+    ensures { IfOk result (λ sink. IfSome (⟦<MemSink as Sink>⟧.put_so_far sink) (λ put. put.bytes ≡ [])) }
+{
+    MemSink::new(alloc, size, Vec::from_slice(alloc, fail)?)
+}
+
+/// A gate that gives these answers, and then always the other one.
+fn list_gate(alloc: Global, answers: &[Said], later: Said) -> Result<ListGate, Memory> {
+    Ok(ListGate::new(alloc, Vec::from_slice(alloc, answers)?, later))
+}
+
 /// The run over this gate, with a journal that takes so many bytes, and whose puts of these numbers fail,
 /// from 1; and with these kept verdicts.
 fn run_over<G: Gate, W: Wait>(
@@ -30,11 +44,21 @@ fn run_over<G: Gate, W: Wait>(
     fail: &[u64],
     kept: Kept,
 ) -> Result<Came, Memory> {
-    let fail = Vec::from_slice(alloc, fail)?;
-    let journal = MemSink::new(alloc, size, fail)?;
-    let Ok(texts) = Texts::new(alloc) else {
-        return Err(Memory);
-    };
+    let journal = sink_of(alloc, size, fail)?;
+    run_with(rt, alloc, gate, journal, kept)
+}
+
+/// The run over this gate, with this journal, which is empty, and these kept verdicts.
+fn run_with<G: Gate, W: Wait>(
+    rt: &W,
+    alloc: Global,
+    gate: &mut G,
+    journal: MemSink,
+    kept: Kept,
+) -> Result<Came, Memory>
+    requires { IfSome (⟦<MemSink as Sink>⟧.put_so_far journal) (λ put. put.bytes ≡ []) }
+{
+    let texts = Texts::new(alloc)?;
     let front = SmallStep::new(alloc);
     let start = digest_of(START);
     match Board::<SmallStep, G, MemSink>::new(alloc, front, journal, 1, start, kept) {
@@ -113,8 +137,7 @@ const UP_TO_A_FAILURE: Wanted = Wanted {
 
 /// Whether the run comes to that, and how many texts were asked then.
 fn failing_run<W: Wait>(rt: &W, alloc: Global) -> Result<(bool, usize), Memory> {
-    let answers = Vec::from_slice(alloc, &[Said::Yes, Said::No])?;
-    let mut gate = ListGate::new(alloc, answers, Said::Fail);
+    let mut gate = list_gate(alloc, &[Said::Yes, Said::No], Said::Fail)?;
     let has_come = comes_to(rt, alloc, &mut gate, 1000, &UP_TO_A_FAILURE)?;
     Ok((has_come, gate.log().asked.len()))
 }
@@ -206,12 +229,21 @@ fn handed_back<W: Wait>(
     }
 }
 
+/// What is handed back, and how many texts were asked.
+fn refused_run<W: Wait>(
+    rt: &W,
+    alloc: Global,
+) -> Result<(Option<(BoardFault, usize, bool)>, Option<usize>), Memory> {
+    let mut gate = RuleGate::<98>::new(alloc, true);
+    let back = handed_back(rt, alloc, &mut gate)?;
+    Ok((back, gate.log().map(|log| log.asked.len())))
+}
+
 #[test]
 fn hands_all_back_where_the_head_does_not_fit(rt: HostRuntime) -> Result<(), Fail> {
-    let mut gate = RuleGate::<98>::new(rt.alloc(), true);
-    let back = handed_back(&rt, rt.alloc(), &mut gate)?;
+    let (back, asked) = refused_run(&rt, rt.alloc())?;
     assert_eq!(rt; back, Some((BoardFault::Journal, 0, true)));
-    assert_eq!(rt; gate.log().map(|log| log.asked.len()), Some(0));
+    assert_eq!(rt; asked, Some(0));
     Ok(())
 }
 
@@ -225,11 +257,23 @@ const ALL_KEPT: Wanted = Wanted {
     asks: false,
 };
 
+/// Whether the run over this gate comes to this, with the verdicts of this journal.
+fn resumes<G: Gate, W: Wait>(
+    rt: &W,
+    alloc: Global,
+    gate: &mut G,
+    journal: &[u8],
+    wanted: &Wanted,
+) -> Result<bool, Fail> {
+    let kept = kept_in(alloc, journal)?;
+    Ok(comes_to_with(rt, alloc, gate, 1000, kept, wanted)?)
+}
+
 /// Whether a run comes to that whose gate fails at each ask, with the verdicts of this journal.
 fn resumes_without_an_ask<W: Wait>(rt: &W, alloc: Global, journal: &[u8]) -> Result<bool, Fail> {
-    let mut gate = ListGate::new(alloc, Vec::new(alloc), Said::Fail);
-    let kept = kept_in(alloc, journal)?;
-    Ok(comes_to_with(rt, alloc, &mut gate, 1000, kept, &ALL_KEPT)? && gate.log().asked.is_empty())
+    let mut gate = list_gate(alloc, &[], Said::Fail)?;
+    let has_come = resumes(rt, alloc, &mut gate, journal, &ALL_KEPT)?;
+    Ok(has_come && gate.log().asked.is_empty())
 }
 
 #[test]
@@ -266,6 +310,23 @@ const UNRECALLED: [(usize, usize); 21] = [
     (10, 170),
 ];
 
+/// Whether the run over this gate where the put of this number fails stops with so many events and this
+/// journal. All its verdicts are kept.
+fn stops_with<G: Gate, W: Wait>(
+    rt: &W,
+    alloc: Global,
+    gate: &mut G,
+    put: u64,
+    events: usize,
+    journal: &[u8],
+) -> Result<bool, Fail> {
+    let kept = kept_in(alloc, JOURNAL)?;
+    match run_over(rt, alloc, gate, 1000, &[put], kept)? {
+        Ok(outcome) => Ok(has_come_to(&outcome, Some(PoolFault::Journal), events, journal)),
+        Err(_) => Ok(false),
+    }
+}
+
 /// Whether the run where the put of this number fails stops with so many events and so many bytes, and has
 /// asked nothing.
 fn stops_unrecalled<W: Wait>(
@@ -278,12 +339,8 @@ fn stops_unrecalled<W: Wait>(
     let Some(journal) = ALL_KEPT.journal.get(..bytes) else {
         return Ok(false);
     };
-    let mut gate = ListGate::new(alloc, Vec::new(alloc), Said::Fail);
-    let kept = kept_in(alloc, JOURNAL)?;
-    let Ok(outcome) = run_over(rt, alloc, &mut gate, 1000, &[put], kept)? else {
-        return Ok(false);
-    };
-    let has_stopped = has_come_to(&outcome, Some(PoolFault::Journal), events, journal);
+    let mut gate = list_gate(alloc, &[], Said::Fail)?;
+    let has_stopped = stops_with(rt, alloc, &mut gate, put, events, journal)?;
     Ok(has_stopped && gate.log().asked.is_empty())
 }
 
@@ -307,10 +364,8 @@ const GONE_ON: Wanted = Wanted {
 
 /// Whether the run comes to that, and how many texts were asked.
 fn resumed_run<W: Wait>(rt: &W, alloc: Global) -> Result<(bool, usize), Fail> {
-    let answers = Vec::from_slice(alloc, &[Said::No, Said::Yes])?;
-    let mut gate = ListGate::new(alloc, answers, Said::Yes);
-    let kept = kept_in(alloc, UP_TO_A_FAILURE.journal)?;
-    let has_come = comes_to_with(rt, alloc, &mut gate, 1000, kept, &GONE_ON)?;
+    let mut gate = list_gate(alloc, &[Said::No, Said::Yes], Said::Yes)?;
+    let has_come = resumes(rt, alloc, &mut gate, UP_TO_A_FAILURE.journal, &GONE_ON)?;
     Ok((has_come, gate.log().asked.len()))
 }
 
@@ -331,27 +386,40 @@ fn known_texts(kept: &Kept) -> usize {
     known
 }
 
+/// Whether the run came to the end.
+fn has_ended(came: &Came) -> bool {
+    match came {
+        Ok(outcome) => {
+            outcome.fault == None && outcome.events.len() == 11 && outcome.front.asks().is_none()
+        }
+        Err(_) => false,
+    }
+}
+
+/// Whether the run over this gate comes to the end with the verdicts of this journal, and how many of the
+/// five texts have one.
+fn ends_after<W: Wait>(
+    rt: &W,
+    alloc: Global,
+    gate: &mut RuleGate<98>,
+    journal: &[u8],
+) -> Result<(bool, usize), Fail> {
+    let kept = kept_in(alloc, journal)?;
+    let known = known_texts(&kept);
+    let came = run_over(rt, alloc, gate, 1000, &[], kept)?;
+    Ok((has_ended(&came), known))
+}
+
 /// What a run that is cut off at this byte of its journal leaves: whether one that resumes it asks each of
 /// the five texts that has no whole record, and comes to the end.
 fn resumes_after<W: Wait>(rt: &W, alloc: Global, cut: usize) -> Result<bool, Fail> {
     let Some(left) = JOURNAL.get(..cut) else {
         return Ok(false);
     };
-    let kept = kept_in(alloc, left)?;
-    let known = known_texts(&kept);
     let mut gate = RuleGate::<98>::new(alloc, true);
-    let Ok(outcome) = run_over(rt, alloc, &mut gate, 1000, &[], kept)? else {
-        return Ok(false);
-    };
-    let Some(log) = gate.log() else {
-        return Ok(false);
-    };
-    Ok(
-        outcome.fault == None
-            && outcome.events.len() == 11
-            && outcome.front.asks().is_none()
-            && log.asked.len().saturating_add(known) == 5,
-    )
+    let (has_ended, known) = ends_after(rt, alloc, &mut gate, left)?;
+    let asked = gate.log().map(|log| log.asked.len());
+    Ok(has_ended && asked.is_some_and(|asked| asked.saturating_add(known) == 5))
 }
 
 #[test]

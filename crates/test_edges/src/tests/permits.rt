@@ -25,18 +25,34 @@ fn spent<G: Gate, W: Wait>(
     }
 }
 
+/// What one gives for a text with a `b`, which the gate says yes to.
+fn spent_by_rule<W: Wait>(
+    rt: &W,
+    alloc: Global,
+) -> Result<Option<Result<Verdict, (u64, GateFault)>>, Fail> {
+    let mut gate = RuleGate::<98>::new(alloc, true);
+    spent(rt, alloc, &mut gate, 7, b"a=1;b=2;")
+}
+
 #[test]
 fn answers_where_the_gate_does(rt: HostRuntime) -> Result<(), Fail> {
-    let mut gate = RuleGate::<98>::new(rt.alloc(), true);
-    let came = spent(&rt, rt.alloc(), &mut gate, 7, b"a=1;b=2;")?;
+    let came = spent_by_rule(&rt, rt.alloc())?;
     assert_eq!(rt; came, Some(Ok(Verdict::Yes)));
     Ok(())
 }
 
+/// What one gives where the gate fails.
+fn spent_on_a_failure<W: Wait>(
+    rt: &W,
+    alloc: Global,
+) -> Result<Option<Result<Verdict, (u64, GateFault)>>, Fail> {
+    let mut gate = ListGate::new(alloc, Vec::new(alloc), Said::Fail);
+    spent(rt, alloc, &mut gate, 3, b"a")
+}
+
 #[test]
 fn gives_the_permit_back_where_the_gate_fails(rt: HostRuntime) -> Result<(), Fail> {
-    let mut gate = ListGate::new(rt.alloc(), Vec::new(rt.alloc()), Said::Fail);
-    let came = spent(&rt, rt.alloc(), &mut gate, 3, b"a")?;
+    let came = spent_on_a_failure(&rt, rt.alloc())?;
     assert_eq!(rt; came, Some(Err((3, GateFault::Failed))));
     Ok(())
 }

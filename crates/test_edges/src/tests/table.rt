@@ -90,27 +90,43 @@ fn has_record(table: &Table, number: u32) -> bool {
     table.find(&text_of(number)) == filled(place, place + 1, verdict_of(number))
 }
 
+/// How many of these records the table has, and whether it lacks the next one.
+fn found_in(table: &Table) -> (usize, bool) {
+    let found = (0..MANY)
+        .filter(|number| has_record(table, *number))
+        .count();
+    (found, table.find(&text_of(MANY)) == Found::Absent)
+}
+
+/// That of the table of these records, and how many records it gives back.
+fn many_found(alloc: Global) -> Result<((usize, bool), usize), Memory> {
+    let table = many_filled(alloc)?;
+    let found = found_in(&table);
+    Ok((found, table.into_records().len()))
+}
+
 #[test]
 fn finds_each_of_many_texts(rt: HostRuntime) -> Result<(), Fail> {
-    let table = many_filled(rt.alloc())?;
-    let found = (0..MANY)
-        .filter(|number| has_record(&table, *number))
-        .count();
-    assert_eq!(rt; found, MANY as usize);
-    assert!(rt; table.find(&text_of(MANY)) == Found::Absent);
-    assert_eq!(rt; table.into_records().len(), MANY as usize);
+    let all = MANY as usize;
+    assert_eq!(rt; many_found(rt.alloc())?, ((all, true), all));
     Ok(())
+}
+
+/// The records of two texts.
+fn two_records(alloc: Global) -> Result<Records, Memory> {
+    let mut records = Records::new(alloc);
+    for text in [b"a", b"b"] {
+        records.push(Record {
+            text: Bytes::from_slice(alloc, text.as_slice())?,
+            verdict: Verdict::Yes,
+        })?;
+    }
+    Ok(records)
 }
 
 #[test]
 fn adds_records_at_the_end(rt: HostRuntime) -> Result<(), Fail> {
-    let mut records = Records::new(rt.alloc());
-    for text in [b"a", b"b"] {
-        records.push(Record {
-            text: Bytes::from_slice(rt.alloc(), text.as_slice())?,
-            verdict: Verdict::Yes,
-        })?;
-    }
+    let records = two_records(rt.alloc())?;
     assert!(rt; has_texts(&records, &[b"a", b"b"]));
     Ok(())
 }
