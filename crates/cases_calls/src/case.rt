@@ -3,7 +3,7 @@
 use crate::decoded;
 use anyhow::{Result, bail};
 use case_maker::{make_case, mini_grammar};
-use edge_io::{MemFiles, MemSink};
+use edge_io::{CutSink, LoggedFiles, MemFiles, MemSink};
 use script_gate_trait::Said;
 use std::alloc::Global;
 
@@ -21,6 +21,8 @@ pub struct Case {
     pub failing_puts: Vec<u64>,
     /// Which puts into the journal fail, counted from 1.
     pub failing_events: Vec<u64>,
+    /// How many bytes the journal takes of a piece whose put fails.
+    pub part: u64,
     /// The most bytes that the output takes.
     pub capacity: u64,
     /// The rule of each gate, as the number of a `RuleGate`.
@@ -29,6 +31,10 @@ pub struct Case {
     pub answers: Vec<Said>,
     /// Where it isn't 0: the gates go by the rule 98, and hold their asks until more than so many have begun.
     pub width: u32,
+    /// The worker whose gate fails at each ask, where they are held; 0 for none.
+    pub failing_worker: u32,
+    /// Whether the calls of the files are printed.
+    pub shows_calls: bool,
 }
 
 impl Case {
@@ -39,18 +45,22 @@ impl Case {
             failing_calls: Vec::new(alloc),
             failing_puts: Vec::new(alloc),
             failing_events: Vec::new(alloc),
+            part: 0,
             capacity: CAPACITY,
             rule: 0,
             answers: Vec::new(alloc),
             width: 0,
+            failing_worker: 0,
+            shows_calls: false,
         }
     }
 
     /// Takes a line of a case, by its first word: `case TEXT`, `file NAME TEXT`, `more COUNT TEXT`
     /// (so many times at the end of the last file), `mini NAME` (a file with the grammar of the generated
     /// programs), `generated NAME NUMBER SIZE` (a file with such a program), `rule N`, `answers yes no fail ..`,
-    /// `holding N` (asks are held until more than so many have begun), `failing_calls N ..`,
-    /// `failing_puts N ..`, `failing_events N ..` (puts into the journal) and `capacity N`.
+    /// `holding N` (asks are held until more than so many have begun), `failing_worker N` (its gate fails at each
+    /// of these), `failing_calls N ..`, `failing_puts N ..`, `failing_events N ..` (puts into the journal), `part N`
+    /// (so many bytes are put where one of these fails), `capacity N` and `showing_calls`.
     pub fn set(&mut self, alloc: Global, key: &str, text: &str) -> Result<()> {
         match key {
             "case" => *self = Case::new(alloc),
@@ -61,10 +71,13 @@ impl Case {
             "rule" => self.rule = text.parse::<u64>()?,
             "answers" => self.answers = answers_in(alloc, text)?,
             "holding" => self.width = text.parse::<u32>()?,
+            "failing_worker" => self.failing_worker = text.parse::<u32>()?,
             "failing_calls" => self.failing_calls = numbers_in(alloc, text)?,
             "failing_puts" => self.failing_puts = numbers_in(alloc, text)?,
             "failing_events" => self.failing_events = numbers_in(alloc, text)?,
+            "part" => self.part = text.parse::<u64>()?,
             "capacity" => self.capacity = text.parse::<u64>()?,
+            "showing_calls" => self.shows_calls = true,
             _ => bail!("no such line: {key}"),
         }
         Ok(())
@@ -104,8 +117,8 @@ impl Case {
         Ok(())
     }
 
-    /// The files in memory.
-    pub fn mem_files(&self, alloc: Global) -> Result<MemFiles> {
+    /// The files in memory, which keep their calls.
+    pub fn logged_files(&self, alloc: Global) -> Result<LoggedFiles<MemFiles>> {
         let mut files = Vec::new(alloc);
         for (name, bytes) in &self.files {
             files.push((
@@ -114,13 +127,13 @@ impl Case {
             ))?;
         }
         let failing = Vec::from_slice(alloc, &self.failing_calls)?;
-        Ok(MemFiles::new(alloc, files, failing))
+        Ok(LoggedFiles::new(alloc, MemFiles::new(alloc, files, failing)))
     }
 
     /// The journal in memory.
-    pub fn mem_journal(&self, alloc: Global) -> Result<MemSink> {
+    pub fn mem_journal(&self, alloc: Global) -> Result<CutSink> {
         let failing = Vec::from_slice(alloc, &self.failing_events)?;
-        Ok(MemSink::new(alloc, CAPACITY, failing)?)
+        Ok(CutSink::new(alloc, CAPACITY, failing, self.part)?)
     }
 
     /// The output in memory.

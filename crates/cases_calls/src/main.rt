@@ -7,10 +7,11 @@
 //! say yes, no call fails, and the output takes all. The lines after it change that, as [`Case::set`]
 //! says. `run` and the words of a command line run the program. After each run comes how it ended: the
 //! status, and then, where there are any, what was put, the journal's records, commits, torn tail and
-//! name, the openings of the gates, and the files that changed. Where several workers came to a result,
-//! the records that the commits use are in place of all; and the numbers of records and of a worker are
-//! left out: these depend on how the workers interleave. In a word or a text `%` and two hexadecimal digits
-//! are a byte, as `%0A` for a newline.
+//! name, the openings of the gates, the files that changed, and the calls of the files, where the case shows
+//! them. Of very many events there are the counts. Where several workers came to a result, the records that
+//! the commits use are in place of all; where the script failed, nothing is; and the numbers of records and
+//! of a worker that isn't the only one to fail are left out: these depend on how the workers interleave. In
+//! a word or a text `%` and two hexadecimal digits are a byte, as `%0A` for a newline.
 #![tactic(auto)]
 
 mod case;

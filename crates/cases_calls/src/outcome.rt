@@ -3,7 +3,7 @@
 use crate::case::Case;
 use anyhow::{Result, bail};
 use command_perses::Ended;
-use edge_io::{MemFiles, MemSink};
+use edge_io::{CutSink, FileAction, LoggedCall, LoggedFiles, MemFiles, MemSink};
 use percent_encoding::{CONTROLS, percent_encode};
 use reduce_journal::{Event, JournalFault, read_journal};
 use script_gate_trait::{Bytes, Log, Verdict};
@@ -12,11 +12,14 @@ use std::alloc::Global;
 /// The most bytes that are printed; of a longer text its length is.
 const SHOWN: usize = 400;
 
+/// The most events of a journal that are printed; of more it is how many records and commits there are.
+const LISTED: usize = 1000;
+
 /// What a run leaves, beside the gates.
 #[derive(Drop)]
 pub struct Outcome {
-    pub ended: Ended<MemSink>,
-    pub files: MemFiles,
+    pub ended: Ended<CutSink>,
+    pub files: LoggedFiles<MemFiles>,
     pub out: MemSink,
 }
 
@@ -40,7 +43,7 @@ fn add_bytes(shown: &mut String, alloc: Global, bytes: &[u8]) -> Result<()> {
 
 /// The events that the journal has, and the length of a torn tail, which is all of a journal without a
 /// whole head.
-fn events_of(alloc: Global, journal: &MemSink) -> Result<(Vec<Event>, u64)> {
+fn events_of(alloc: Global, journal: &CutSink) -> Result<(Vec<Event>, u64)> {
     match read_journal(alloc, &Bytes::from_slice(alloc, journal.bytes())?) {
         Ok(read) => Ok((read.events, read.torn)),
         Err(JournalFault::BadHead) => Ok((Vec::new(alloc), journal.bytes().len() as u64)),
@@ -134,20 +137,40 @@ fn record_counts(events: &[Event]) -> (u64, u64) {
     (all, asked)
 }
 
+/// How many records and commits there are.
+fn add_counts(shown: &mut String, alloc: Global, events: &[Event]) -> Result<()> {
+    let (records, _) = record_counts(events);
+    let commits = (events.len() as u64).saturating_sub(records);
+    let line = format!(in alloc; "{records} records, {commits} commits")?;
+    add_line(shown, line.as_str())
+}
+
+/// Which events of a journal are printed.
+#[derive(Clone, Copy)]
+enum Listed {
+    All,
+    /// The records that the commits use.
+    Used,
+    Nothing,
+}
+
 /// The journal's name and events, where it was opened.
 fn add_journal(
     shown: &mut String,
     alloc: Global,
-    journal: &MemSink,
+    journal: &CutSink,
     events: &[Event],
     torn: u64,
-    only_used: bool,
+    listed: Listed,
 ) -> Result<()> {
-    if only_used {
-        add_used(shown, alloc, events)?;
-    } else {
-        add_records(shown, alloc, events)?;
-        add_commits(shown, alloc, events)?;
+    match listed {
+        Listed::Nothing => {}
+        _ if events.len() > LISTED => add_counts(shown, alloc, events)?,
+        Listed::Used => add_used(shown, alloc, events)?,
+        Listed::All => {
+            add_records(shown, alloc, events)?;
+            add_commits(shown, alloc, events)?;
+        }
     }
     if torn > 0 {
         let line = format!(in alloc; "torn tail of {torn} bytes")?;
@@ -233,11 +256,38 @@ fn add_files(shown: &mut String, alloc: Global, case: &Case, files: &MemFiles) -
     Ok(())
 }
 
+/// The calls of the files, each on a line.
+fn add_calls(shown: &mut String, alloc: Global, calls: &[LoggedCall]) -> Result<()> {
+    for call in calls {
+        add_line(
+            shown,
+            match call.action() {
+                FileAction::Read => "read",
+                FileAction::Write => "write",
+            },
+        )?;
+        add_bytes(shown, alloc, call.name().as_bytes())?;
+        if call.failed() {
+            shown.push_str(" failed")?;
+        }
+    }
+    Ok(())
+}
+
 /// How many workers a run had.
 #[derive(Clone, Copy)]
 pub enum Workers {
     One,
     Several,
+}
+
+/// Which events are printed of a run with this status.
+fn listed_of(workers: Workers, status: u8) -> Listed {
+    match (workers, status) {
+        (Workers::Several, 0) => Listed::Used,
+        (Workers::Several, 11) => Listed::Nothing,
+        _ => Listed::All,
+    }
 }
 
 /// What was put, where several workers ran: without the number of records where it is that of the journal;
@@ -258,6 +308,31 @@ fn add_put(shown: &mut String, alloc: Global, out: &str, opened: u64, records: u
     add_bytes(shown, alloc, out.as_bytes())
 }
 
+/// What was put on the output, if anything was, over gates that have these logs, beside so many records.
+fn add_output(
+    shown: &mut String,
+    alloc: Global,
+    out: &[u8],
+    logs: &[&Log],
+    records: u64,
+    workers: Workers,
+) -> Result<()> {
+    if out.is_empty() {
+        return Ok(());
+    }
+    add_line(shown, "put")?;
+    match workers {
+        Workers::One => add_bytes(shown, alloc, out),
+        Workers::Several => add_put(
+            shown,
+            alloc,
+            str::from_utf8(out)?,
+            opened_count(logs),
+            records,
+        ),
+    }
+}
+
 /// How the run of a case ended over gates that have these logs and answered so many asks.
 pub fn shown(
     alloc: Global,
@@ -267,25 +342,15 @@ pub fn shown(
     asked: u64,
     workers: Workers,
 ) -> Result<String> {
-    let mut shown = format!(in alloc; "    status {}", outcome.ended.status)?;
+    let status = outcome.ended.status;
+    let mut shown = format!(in alloc; "    status {status}")?;
     let journal = &outcome.ended.journal;
     let (events, torn) = events_of(alloc, journal)?;
     let (records, recorded) = record_counts(&events);
-    if !outcome.out.bytes().is_empty() {
-        add_line(&mut shown, "put")?;
-        match workers {
-            Workers::One => add_bytes(&mut shown, alloc, outcome.out.bytes())?,
-            Workers::Several => add_put(
-                &mut shown,
-                alloc,
-                str::from_utf8(outcome.out.bytes())?,
-                opened_count(logs),
-                records,
-            )?,
-        }
-    }
-    let only_used = matches!(workers, Workers::Several) && outcome.ended.status == 0;
-    add_journal(&mut shown, alloc, journal, &events, torn, only_used)?;
+    let out = outcome.out.bytes();
+    add_output(&mut shown, alloc, out, logs, records, workers)?;
+    let listed = listed_of(workers, status);
+    add_journal(&mut shown, alloc, journal, &events, torn, listed)?;
     add_openings(&mut shown, alloc, logs)?;
     match (workers, logs.first()) {
         (Workers::One, Some(log)) => add_asks(&mut shown, log, &events)?,
@@ -295,6 +360,9 @@ pub fn shown(
         )?,
         _ => {}
     }
-    add_files(&mut shown, alloc, case, &outcome.files)?;
+    add_files(&mut shown, alloc, case, outcome.files.inner())?;
+    if case.shows_calls {
+        add_calls(&mut shown, alloc, outcome.files.calls())?;
+    }
     Ok(shown)
 }

@@ -7,7 +7,7 @@ use crate::case::Case;
 use crate::outcome::{Outcome, Workers, opened_count, shown};
 use anyhow::{Result, bail};
 use command_perses::{add_worker, no_workers, perses};
-use script_gate_trait::{Gate, ListGate, Log, RuleGate};
+use script_gate_trait::{Gate, GateFault, ListGate, Log, RuleGate};
 use std::alloc::Global;
 use std::sync::{Arc, Wait};
 use std::thread::Threads;
@@ -28,7 +28,7 @@ fn run_over<G: Gate + Send, W: Threads + Wait + Sync>(
     requires numbered { AreNumbered workers.old }
     requires sixteen { length workers.old ≡ 16 }
 {
-    let mut files = case.mem_files(alloc)?;
+    let mut files = case.logged_files(alloc)?;
     let journal = case.mem_journal(alloc)?;
     let mut out = case.mem_sink(alloc)?;
     let ended = perses(rt, alloc, words, &mut files, workers, journal, &mut out);
@@ -92,7 +92,22 @@ fn by_answers<W: Threads + Wait + Sync>(
     shown_by(alloc, case, &outcome, &logs)
 }
 
-/// Over gates by the rule 98 that hold their asks until more than so many have begun.
+/// The gate of the worker of this number: by the rule 98, or one that fails.
+fn held_gate(
+    alloc: Global,
+    case: &Case,
+    count: &Arc<HoldCount>,
+    number: u32,
+) -> Result<HoldGate<98>> {
+    let count = Arc::try_clone(count)?;
+    Ok(if number == case.failing_worker {
+        HoldGate::faulty(alloc, count, GateFault::Failed)
+    } else {
+        HoldGate::new(alloc, count)
+    })
+}
+
+/// Over gates that hold their asks until more than so many have begun.
 fn by_holding<W: Threads + Wait + Sync>(
     rt: &W,
     alloc: Global,
@@ -101,11 +116,8 @@ fn by_holding<W: Threads + Wait + Sync>(
 ) -> Result<String> {
     let count = Arc::new(alloc, HoldCount::new(case.width))?;
     let mut workers = no_workers(alloc);
-    for _ in 0..WORKERS {
-        add_worker(
-            &mut workers,
-            HoldGate::<98>::new(alloc, Arc::try_clone(&count)?),
-        )?;
+    for earlier in 0..WORKERS {
+        add_worker(&mut workers, held_gate(alloc, case, &count, earlier + 1)?)?;
     }
     let outcome = run_over(rt, alloc, case, words, &mut workers)?;
     let mut asked: u64 = 0;

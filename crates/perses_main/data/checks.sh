@@ -409,6 +409,10 @@ says 'perses: uncut:2:5: no token at byte 9' $trees uncut
 printf 'a=;\n' > unparsed
 says "perses: unparsed:1:3: ';' can't be here; what can: '(', ID, INT" $trees unparsed
 byline='reduce --mode lines --input lines --script'
+# What the script says on standard error is the program's.
+make_script complaining 'echo complaint >&2'
+"$program" $byline complaining --output o > put 2> said
+grep -qxF complaint said
 says 'perses: full: No space left on device (os error 28)' $byline has-a --output full
 says 'perses: unwritable.journal: No space left on device (os error 28)' $byline has-a --output unwritable
 says 'perses: on the whole input the script ended with signal: 9 (SIGKILL)' $byline killed --output o

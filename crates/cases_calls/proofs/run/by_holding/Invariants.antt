@@ -3,5 +3,5 @@ use Rattle.command_perses.specs.Workers.{AreNumbered}
 use Rattle.cases_calls.proofs.run.by_holding.Given as goal
 
 -- the workers so far
-abbrev pub invariant-loop : goal.invariant-loop
-invariant-loop g l = AreNumbered l.workers.items × (length l.workers.items ≡ l.counter)
+abbrev pub invariant-loop-earlier : goal.invariant-loop-earlier
+invariant-loop-earlier g l = AreNumbered l.workers.items × (length l.workers.items ≡ l.earlier)
