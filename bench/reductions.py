@@ -10,18 +10,29 @@ INPUT, GRAMMAR, OUTPUT, SCRIPT, JOURNAL = "input", "grammar", "output", "script"
 
 NEEDED = 2
 
+# A grammar of assignments and blocks.
+STATEMENTS = r"""grammar E;
+file : stmt* EOF ;
+stmt : ID '=' expr ';' | '{' stmt* '}' ;
+expr : expr '+' expr | '(' expr ')' | ID | INT ;
+ID : [a-z]+ ;
+INT : [0-9]+ ;
+WS : [ \n]+ -> skip ;
+"""
+
 
 class Reduction(NamedTuple):
-    """A text that is reduced in a mode, a command for the shell that tests the file "$1", and what it says of a text."""
+    """A text that is reduced in a mode, a command for the shell that tests the file "$1", what it says of a text, and a grammar."""
 
     mode: str
     text: bytes
     test: str
     says_yes: Callable
+    grammar: str = mini.GRAMMAR
 
     def key(self):
         """What tells reductions apart."""
-        return self.mode, self.text, self.test
+        return self.mode, self.text, self.test, self.grammar
 
     def words(self):
         """The words of the command line, but those on output, journal and workers."""
@@ -38,7 +49,7 @@ class Reduction(NamedTuple):
     def prepare(self, folder, commands=None):
         """Writes input, grammar and a script, which only tests where no other commands are given."""
         Path(folder, INPUT).write_bytes(self.text)
-        Path(folder, GRAMMAR).write_text(mini.GRAMMAR)
+        Path(folder, GRAMMAR).write_text(self.grammar)
         write_script(folder, commands or f"{self.test}\n")
 
 
