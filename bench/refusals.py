@@ -27,6 +27,10 @@ REFUSE = b"\x31\xc0"
 # An instruction that kills the program, to see whether a run comes there.
 KILL = b"\x0f\x0b"
 
+# The program has tests of each access to memory. They end it by a signal, and not with status 1, which is
+# that of a refusal; and what that instruction does is left to the system.
+TESTS = "abort_on_error=1:handle_sigill=0"
+
 # A script for the compiled program to ask: it takes a copy of the program that asks it, and the words
 # that it is begun with before its own name, as those of a loader.
 TAKE = """#!{python}
@@ -158,6 +162,7 @@ class Programs:
         self.free = queue.Queue()
         for number in range(side):
             self.free.put(shutil.copy(program.path, Path(folder, f"program{number}")))
+        os.environ["ASAN_OPTIONS"] = TESTS
 
     def run(self, row, number, kills=False):
         """What a run leaves whose allocation of this number is refused, or kills it. 0 is the number of none."""
@@ -173,8 +178,11 @@ class Programs:
             self.free.put(path)
 
     def count(self, row):
-        """How many allocations a run makes."""
-        return largest(lambda number: (self.run(row, number, kills=True).came.status or 0) < 0)
+        """How many allocations a run makes. Each makes some."""
+        count = largest(lambda number: (self.run(row, number, kills=True).came.status or 0) < 0)
+        if count == 0:
+            sys.exit(f"{row.name}: the run wasn't killed at its first allocation")
+        return count
 
 
 def run_in(folder, program, row, before):
