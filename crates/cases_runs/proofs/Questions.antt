@@ -2,7 +2,7 @@
 use Rattle.std.proofs.Common.{◌≡◌, ◌≢◌, ℕ, zero, suc, None, refl}
 use Rattle.script_gate_trait.specs.declared.gate.Verdict.TheVariants.{Yes, No}
 use Rattle.reduce_step.specs.Plan.{after, asked}
-use Rattle.test_runs.specs.SmallPlan.{ended, plan_at}
+use Rattle.cases_runs.specs.SmallPlan.{ended, plan_at}
 
 pub asks_no_more : (n : ℕ) → n ≢ 0 → n ≢ 1 → n ≢ 2 → n ≢ 3 → n ≢ 4 → n ≢ 5 → n ≢ 6 → n ≢ 7 → asked (plan_at n) ≡ None
 asks_no_more zero a b c d e f g h = absurd (a refl)

@@ -1,8 +1,8 @@
 use Rattle.std.proofs.Common.{rules, ◌≡◌, ◌+◌, ◌<◌, List, None, length, get_or, arith}
 use Rattle.ordered_commit.specs.declared.seat.Seat.{Seat}
 use Rattle.ordered_commit.specs.Seats.{Agrees}
-use Rattle.test_runs.proofs.FreeSeats.{one_more_free}
-use Rattle.test_runs.proofs.tests.hands.are_free.Goals as goal
+use Rattle.cases_runs.proofs.FreeSeats.{one_more_free}
+use Rattle.cases_runs.proofs.hands.are_free.Goals as goal
 
 pub loop-index-preserved : goal.loop-index-preserved
 loop-index-preserved g c =

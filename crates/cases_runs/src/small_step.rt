@@ -5,7 +5,7 @@ ghost use Rattle.std.specs.Option.{option_copied};
 ghost use Rattle.reduce_step.specs.Limits.{text_limit};
 ghost use Rattle.reduce_step.specs.Plan.{after, asked};
 ghost use Rattle.reduce_step.specs.Ahead.{ahead};
-ghost use Rattle.test_runs.specs.SmallPlan.{plan_at};
+ghost use Rattle.cases_runs.specs.SmallPlan.{plan_at};
 
 use faults::Memory;
 use reduce_step::Step;

@@ -5,6 +5,7 @@ ghost use Rattle.boxcar.specs.Table.{Shows};
 ghost use Rattle.ordered_commit.specs.BoardState.{IsSettled};
 ghost use Rattle.ordered_commit.specs.Seats.{AreFreeSeats};
 
+use crate::shown::add_text;
 use crate::small_step::SmallStep;
 use edge_io::{MemSink, Sink};
 use faults::Memory;
@@ -12,7 +13,7 @@ use gate_permits::{Answer, Texts, ask_once};
 use ordered_commit::{Board, Seat, Take};
 use reduce_step::Step;
 use script_gate_trait::Gate;
-use std::alloc::Global;
+use std::alloc::{AllocError, Global};
 use std::sync::Wait;
 
 /// An answer, with the texts among which its text is.
@@ -40,11 +41,11 @@ impl<'a, G: Gate> Hand<'a, G> {
         }
     }
 
-    /// Whether it has an answer about this text.
-    pub(crate) fn asked_about(&self, text: &[u8]) -> bool {
+    /// Adds the text about which it has an answer.
+    pub(crate) fn add_asked(&self, out: &mut String) -> Result<(), AllocError> {
         match &self.asked {
-            Some(asked) => asked.texts.value(asked.answer.token()).as_slice() == text,
-            None => false,
+            Some(asked) => add_text(out, asked.texts.value(asked.answer.token()).as_slice()),
+            None => out.push_str("nothing"),
         }
     }
 }

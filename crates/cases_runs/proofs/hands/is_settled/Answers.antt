@@ -1,5 +1,5 @@
-use Rattle.test_runs.proofs.Settled.{settled_after}
-use Rattle.test_runs.proofs.tests.hands.is_settled.Goals as goal
+use Rattle.cases_runs.proofs.Settled.{settled_after}
+use Rattle.cases_runs.proofs.hands.is_settled.Goals as goal
 
 pub returns-in-Ok : goal.returns-in-Ok
 returns-in-Ok g c = λ none.

@@ -2,8 +2,8 @@ use Rattle.std.proofs.Common.{rules, ◌≡◌, ◌<◌, ℕ, List, [], ◌∷�
 use Rattle.script_gate_trait.specs.declared.gate.Verdict.TheVariants.{No}
 use Rattle.reduce_step.specs.Plan.{Plan, after, asked}
 use Rattle.reduce_rounds.proofs.Lent.{WereAskedAtNo, one_more}
-use Rattle.test_runs.specs.SmallPlan.{plan_at}
-use Rattle.test_runs.proofs.small_step.texts_at_no.Goals as goal
+use Rattle.cases_runs.specs.SmallPlan.{plan_at}
+use Rattle.cases_runs.proofs.small_step.texts_at_no.Goals as goal
 
 pub questions-preserved : goal.questions-preserved
 questions-preserved c =
