@@ -1,9 +1,7 @@
 //! The types of grammars: each call once with ample memory, its answer compared.
 
-use grammar_tree::{
-    CharSet, Grammar, Kind, KindSource, LexAlts, LexTerm, LexTerms, Memory, ParserAlts, ParserTerm,
-    ParserTerms, Rule, Text, TokenRef, TokenRefs,
-};
+use grammar_reader::read_grammar;
+use grammar_tree::{CharSet, Grammar, Kind, KindSource, Memory, Rule, Text};
 use std::alloc::Global;
 use std::test::Fail;
 
@@ -30,12 +28,18 @@ fn a_set_is_the_union_of_its_ranges(rt: HostRuntime) -> Result<(), Fail> {
     Ok(())
 }
 
+/// Whether the set has the characters beside the surrogates, and none before or after these.
+fn is_beside_surrogates(set: &CharSet) -> bool {
+    !set.contains('\u{D7FD}')
+        && set.contains('\u{D7FE}')
+        && set.contains('\u{D7FF}')
+        && ends_at(set, '\u{D7FF}', '\u{E000}', '\u{E001}')
+}
+
 #[test]
 fn a_set_over_the_surrogates_has_the_characters_beside_them(rt: HostRuntime) -> Result<(), Fail> {
     let set = CharSet::new(rt.alloc(), &[('\u{D7FE}', '\u{E000}')])?;
-    assert!(rt; !set.contains('\u{D7FD}'));
-    assert!(rt; set.contains('\u{D7FE}') && set.contains('\u{D7FF}'));
-    assert!(rt; ends_at(&set, '\u{D7FF}', '\u{E000}', '\u{E001}'));
+    assert!(rt; is_beside_surrogates(&set));
     Ok(())
 }
 
@@ -72,59 +76,29 @@ fn a_union_has_both_and_a_complement_the_rest(rt: HostRuntime) -> Result<(), Fai
     Ok(())
 }
 
+/// Characters at the ends of all ranges, and one between.
+const CHARACTERS: [char; 5] = ['\0', 'a', '\u{D7FF}', '\u{E000}', '\u{10FFFF}'];
+
+/// How many of these the set has.
+fn count_in(set: &CharSet) -> usize {
+    CHARACTERS.iter().filter(|c| set.contains(**c)).count()
+}
+
+/// How many of these are among all characters, and in the complement of all.
+fn all_and_none(alloc: Global) -> Result<(usize, usize), Memory> {
+    let all = CharSet::new(alloc, &[])?.complement()?;
+    let none = all.complement()?;
+    Ok((count_in(&all), count_in(&none)))
+}
+
 #[test]
 fn all_characters_have_no_complement(rt: HostRuntime) -> Result<(), Fail> {
-    let all = CharSet::new(rt.alloc(), &[])?.complement()?;
-    for c in ['\0', 'a', '\u{D7FF}', '\u{E000}', '\u{10FFFF}'] {
-        assert!(rt; all.contains(c));
-        assert!(rt; !all.complement()?.contains(c));
-    }
+    assert_eq!(rt; all_and_none(rt.alloc())?, (5, 0));
     Ok(())
 }
 
-/// `grammar G; tokens {T} a : ~(T | 'x')* EOF ; A : 'x' [ab]*? 'b' -> skip ;`
-fn small_grammar(alloc: Global) -> Result<Grammar, Memory> {
-    Ok(Grammar {
-        name: Text::new(alloc, "G")?,
-        tokens: vec![in alloc; Text::new(alloc, "T")?]?,
-        rules: vec![in alloc; parser_rule(alloc)?, lexer_rule(alloc)?]?,
-    })
-}
-
-fn parser_rule(alloc: Global) -> Result<Rule, Memory> {
-    let token = TokenRef::Name(Text::new(alloc, "T")?);
-    let literal = TokenRef::Literal(Text::new(alloc, "x")?);
-    let others = ParserTerm::Not(TokenRefs {
-        items: vec![in alloc; token, literal]?,
-    });
-    let star = ParserTerm::Star(Box::new(alloc, others)?);
-    let alt = ParserTerms {
-        items: vec![in alloc; star, ParserTerm::Eof]?,
-    };
-    Ok(Rule::Parser {
-        name: Text::new(alloc, "a")?,
-        alts: ParserAlts {
-            items: vec![in alloc; alt]?,
-        },
-    })
-}
-
-fn lexer_rule(alloc: Global) -> Result<Rule, Memory> {
-    let first = LexTerm::Literal(Text::new(alloc, "x")?);
-    let short = LexTerm::Short(CharSet::new(alloc, &[('a', 'b')])?);
-    let last = LexTerm::Literal(Text::new(alloc, "b")?);
-    let alt = LexTerms {
-        items: vec![in alloc; first, short, last]?,
-    };
-    Ok(Rule::Lexer {
-        name: Text::new(alloc, "A")?,
-        fragment: false,
-        gap: true,
-        alts: LexAlts {
-            items: vec![in alloc; alt]?,
-        },
-    })
-}
+/// A grammar with a rule of each kind.
+const SMALL: &[u8] = b"grammar G; tokens {T} a : ~(T | 'x')* EOF ; A : 'x' [ab]*? 'b' -> skip ;";
 
 /// Whether the rule's matches are gaps, how many alternatives it has, and how many terms the first.
 fn shape(rule: &Rule) -> (bool, usize, usize) {
@@ -150,8 +124,9 @@ fn is_small(grammar: &Grammar) -> bool {
 }
 
 /// A copy of the small grammar.
-fn copied_grammar(alloc: Global) -> Result<Grammar, Memory> {
-    small_grammar(alloc)?.copy(alloc)
+fn copied_grammar(alloc: Global) -> Result<Grammar, Fail> {
+    let grammar = read_grammar(alloc, SMALL)?;
+    Ok(grammar.copy(alloc)?)
 }
 
 #[test]
@@ -161,15 +136,19 @@ fn a_copy_has_the_same_rules(rt: HostRuntime) -> Result<(), Fail> {
     Ok(())
 }
 
-#[test]
-fn a_kind_is_copied_with_its_source(rt: HostRuntime) -> Result<(), Fail> {
+/// Whether the copy of a kind has its name and its source.
+fn is_copied_with_its_source(alloc: Global) -> Result<bool, Memory> {
     let kind = Kind {
-        name: Text::new(rt.alloc(), "ID")?,
+        name: Text::new(alloc, "ID")?,
         gap: false,
         source: KindSource::Written(7),
     };
     let copy = kind.copy()?;
-    assert!(rt; copy.name.is(&kind.name));
-    assert_eq!(rt; copy.source, KindSource::Written(7));
+    Ok(copy.name.is(&kind.name) && copy.source == KindSource::Written(7))
+}
+
+#[test]
+fn a_kind_is_copied_with_its_source(rt: HostRuntime) -> Result<(), Fail> {
+    assert!(rt; is_copied_with_its_source(rt.alloc())?);
     Ok(())
 }
