@@ -3,7 +3,7 @@
 ghost use Rattle.std.specs.Prelude.{◌≡◌, ◌==◌, ◌&&◌, ◌%◌, ◌||◌, not, false, count_by, nat_le, slice_get, unwrap_or};
 
 use faults::Memory;
-use list_ddmin::{Ddmin, Test, plain_list_step};
+use list_ddmin::{Ddmin, Outcome, Test, plain_list_step};
 use std::alloc::Global;
 use std::test::Fail;
 
@@ -80,11 +80,14 @@ fn asks_these<T: Test>(machine: &mut Ddmin, test: &T, questions: &[Vec<bool>]) -
 }
 
 /// Whether the machine asks what the plain recursion asked, and ends with the same.
+fn goes_like<T: Test>(mut machine: Ddmin, test: &T, plain: &Outcome) -> bool {
+    asks_these(&mut machine, test, &plain.questions) && machine.kept() == plain.result.as_slice()
+}
+
+/// Whether the machine asks what the plain recursion asks, and ends with the same.
 fn agrees<T: Test>(alloc: Global, test: &T, len: u32, may_be_empty: bool) -> Result<bool, Memory> {
     let plain = plain_list_step(alloc, test, len, may_be_empty)?;
-    let mut machine = Ddmin::new(alloc, len, may_be_empty)?;
-    let asks_these = asks_these(&mut machine, test, &plain.questions);
-    Ok(asks_these && machine.kept() == plain.result.as_slice())
+    Ok(goes_like(Ddmin::new(alloc, len, may_be_empty)?, test, &plain))
 }
 
 /// Whether they agree on lists of so many elements by each rule with this number.

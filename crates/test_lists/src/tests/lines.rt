@@ -20,42 +20,44 @@ fn text_of(alloc: Global, lines: &Lines) -> Result<Vec<u8>, Memory> {
     Ok(candidate.text)
 }
 
-/// The texts that a reducer asks, where the test answers each.
-fn questions_of<T: Test, F: Relation>(
-    alloc: Global,
-    test: &T,
-    reducer: &mut LineReducer<'_, F>,
-) -> Result<Vec<Vec<u8>>, Memory> {
-    let mut questions = Vec::new(alloc);
-    for _ in 0..u64::MAX {
-        let Some(text) = reducer.asks() else {
-            break;
-        };
-        let verdict = if test.test(text) {
-            Verdict::Yes
-        } else {
-            Verdict::No
-        };
-        questions.push(Vec::from_slice(alloc, text)?)?;
-        reducer.answer(verdict)?;
+/// Whether the step asks this text, which the test answers then.
+fn asks_this<T: Test, S: Step>(test: &T, step: &mut S, text: &[u8]) -> Result<bool, Memory> {
+    let Some(asked) = step.asks() else {
+        return Ok(false);
+    };
+    if asked != text {
+        return Ok(false);
     }
-    Ok(questions)
+    let verdict = if test.test(asked) {
+        Verdict::Yes
+    } else {
+        Verdict::No
+    };
+    step.answer(verdict)?;
+    Ok(true)
 }
 
-/// Whether the texts are the same, in the same order.
-fn are_same(texts: &[Vec<u8>], others: &[Vec<u8>]) -> bool {
-    if texts.len() != others.len() {
-        return false;
-    }
-    for (text, other) in texts.iter().zip(others) {
-        if text.as_slice() != other.as_slice() {
-            return false;
+/// Whether the step asks these texts, in this order, where the test answers each, and then no more.
+fn asks_these<T: Test, S: Step>(test: &T, step: &mut S, texts: &[Vec<u8>]) -> Result<bool, Memory> {
+    for text in texts {
+        if !asks_this(test, step, text)? {
+            return Ok(false);
         }
     }
-    true
+    Ok(step.asks().is_none())
 }
 
 /// Whether the reducer asks what the plain recursion asked, and ends with the same.
+fn goes_like<T: Test, F: Relation>(
+    alloc: Global,
+    test: &T,
+    mut reducer: LineReducer<'_, F>,
+    plain: &Reduction,
+) -> Result<bool, Memory> {
+    Ok(asks_these(test, &mut reducer, &plain.questions)? && ends_like(alloc, &reducer, plain)?)
+}
+
+/// Whether the reducer asks what the plain recursion asks, and ends with the same.
 fn agrees<T: Test, F: Relation>(
     alloc: Global,
     test: &T,
@@ -65,10 +67,8 @@ fn agrees<T: Test, F: Relation>(
     if start.len() > TEXT_LIMIT {
         return Ok(false);
     }
-    let mut reducer = line_reducer(alloc, start, guard)?;
-    let questions = questions_of(alloc, test, &mut reducer)?;
     let plain = plain_reduction(alloc, test, guard, start)?;
-    Ok(are_same(&questions, &plain.questions) && ends_like(alloc, &reducer, &plain)?)
+    goes_like(alloc, test, line_reducer(alloc, start, guard)?, &plain)
 }
 
 /// Whether the reducer has come to the same as the plain recursion.
@@ -182,11 +182,16 @@ fn keeps_b(alloc: Global, found: &Reduction) -> Result<bool, Memory> {
     Ok(is_so && are_text(alloc, &found.lines, b"b\n")?)
 }
 
-/// Whether the plain recursion does.
+/// Whether the plain recursion with this guard does.
+fn plain_keeps_b_with<F: Relation>(alloc: Global, guard: &Guard<F>) -> Result<bool, Memory> {
+    let plain = plain_reduction(alloc, &HasBoth(b'b', b'b'), guard, b"a\nb\nc\n")?;
+    keeps_b(alloc, &plain)
+}
+
+/// Whether the plain recursion does without keep texts.
 fn plain_keeps_b(alloc: Global) -> Result<bool, Memory> {
     let guard = guard_of(alloc, &[])?;
-    let plain = plain_reduction(alloc, &HasBoth(b'b', b'b'), &guard, b"a\nb\nc\n")?;
-    keeps_b(alloc, &plain)
+    plain_keeps_b_with(alloc, &guard)
 }
 
 /// The first line and the last of three.
