@@ -13,8 +13,8 @@ use Rattle.grammar_reader_notation.proofs.Lent.{profile_fits}
 use Rattle.grammar_tree.specs.Kinds.{kinds_of}
 use Rattle.case_language.proofs.WellFormed.{well_formed}
 use Rattle.grammar_reader_machine.specs.Machine.{AtEnd, AtStart}
-use Rattle.grammar_reader_laws.specs.WordByWord.{run}
-use Rattle.grammar_reader_laws.proofs.Lent.{Goes, Rest, accepts, run_complete}
+use Rattle.grammar_reader.specs.WordByWord.{run}
+use Rattle.grammar_reader.proofs.Lent.{Goes, Rest, accepts, run_complete}
 use Rattle.case_maker.specs.Mini.{mini_text}
 use Rattle.case_language.specs.Mini.{all_chars, blank_of, comment_of, digits, grammar_with, id_of, int_of, letters}
 use Rattle.case_language.specs.Mini.{letters_digits, line_chars, line_of, mini, plain_chars, str_of}

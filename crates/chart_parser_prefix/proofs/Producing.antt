@@ -6,8 +6,8 @@ use Rattle.std.specs.List.{Contains, list_all, list_any}
 use Rattle.std.specs.Option.{option_map_or}
 use Rattle.std.proofs.lemmas.Bool.{cases_eq}
 use Rattle.std.proofs.lemmas.Option.{slice_get_within}
-use Rattle.grammar_check_tables.specs.Flags.{flag}
-use Rattle.grammar_check_tables.specs.Marking.{IsClosedAt, IsMarked}
+use Rattle.grammar_check_nodes.specs.Flags.{flag}
+use Rattle.grammar_check_nodes.specs.Marking.{IsClosedAt, IsMarked}
 use Rattle.normal_form.specs.declared.normal.Sym.{Sym}
 use Rattle.normal_form.specs.declared.normal.Sym.TheVariants.{Kind, Set, Rule}
 use Rattle.normal_form.specs.Form.{RuleForm, NormalForm}

@@ -7,7 +7,7 @@ ghost use Rattle.normal_form.specs.View.{alts_form, rule_form};
 ghost use Rattle.chart_parser_prefix.specs.inner.Productive.{AreProductive, DerivesSome, DerivesSomeSeq, form_passes, has_some, passes};
 
 use faults::Memory;
-use grammar_check_tables::{Condition, Test, is_flagged, least_table};
+use grammar_check_nodes::{Condition, Test, is_flagged, least_table};
 use normal_form::{Normal, NormalRule, Sym};
 use std::alloc::Global;
 

@@ -9,10 +9,10 @@ use Rattle.grammar_load.specs.Message.{grammar_fault_text}
 use Rattle.grammar_load.specs.Reads.{IsProfile}
 use Rattle.grammar_load.specs.declared.fault.GrammarFault.{GrammarFault}
 use Rattle.grammar_load.specs.declared.fault.GrammarFault.TheVariants as grammar_fault
-use Rattle.grammar_load_pair.specs.Answer.{IsPairGrammarFault, SpellsPair}
-use Rattle.grammar_load_pair.specs.Message.{pair_grammar_fault_text}
-use Rattle.grammar_load_pair.specs.declared.fault.PairGrammarFault.{PairGrammarFault}
-use Rattle.grammar_load_pair.specs.declared.fault.PairGrammarFault.TheVariants as pair_fault
+use Rattle.grammar_load.specs.PairAnswer.{IsPairGrammarFault, SpellsPair}
+use Rattle.grammar_load.specs.PairMessage.{pair_grammar_fault_text}
+use Rattle.grammar_load.specs.declared.pair_fault.PairGrammarFault.{PairGrammarFault}
+use Rattle.grammar_load.specs.declared.pair_fault.PairGrammarFault.TheVariants as pair_fault
 use Rattle.grammar_pair.specs.Joined.{IsJoined}
 use Rattle.command_ends.specs.declared.status.NamedFile.{NamedFile}
 use Rattle.command_ends.specs.declared.status.NamedFile.TheVariants as read

@@ -3,7 +3,7 @@
 ghost use Rattle.std.specs.Prelude.{◌≡◌, ◌≤◌, [], ◌∷◌, IfErr, IfOk, OnOk, length, option_map};
 ghost use Rattle.std.specs.Str.{chars};
 ghost use Rattle.edge_io.specs.Files.{SameFiles};
-ghost use Rattle.grammar_load_pair.specs.Message.{pair_grammar_fault_text};
+ghost use Rattle.grammar_load.specs.PairMessage.{pair_grammar_fault_text};
 ghost use Rattle.command_words.specs.Lines.{grammar_read};
 ghost use Rattle.command_grammar.specs.Grammar.{GrammarCalls, GrammarFails, GrammarRead, SpellsTheGrammar, start_name};
 ghost use Rattle.command_grammar.specs.Texts.{GrammarTexts, grammar_paths};
@@ -15,8 +15,7 @@ use command_ends::{GRAMMAR_LIMIT, NamedFile, Refusal, read_file};
 use command_words::NamedGrammar;
 use edge_io::Files;
 use faults::Memory;
-use grammar_load::{GrammarFault, checked_grammar};
-use grammar_load_pair::{PairGrammarFault, checked_pair};
+use grammar_load::{GrammarFault, PairGrammarFault, checked_grammar, checked_pair};
 use grammar_tree::Checked;
 use std::alloc::Global;
 

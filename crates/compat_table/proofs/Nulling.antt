@@ -11,8 +11,8 @@ use Rattle.std.proofs.lemmas.Bool.Decides.{Decides-eqb}
 use Rattle.std.proofs.lemmas.List.Elements.{Contains-append_left, Contains-append_right}
 use Rattle.std.proofs.lemmas.List.{take-append-drop}
 use Rattle.std.proofs.lemmas.Option.{slice_get_within}
-use Rattle.grammar_check_tables.specs.Flags.{flag}
-use Rattle.grammar_check_tables.specs.Marking.{IsClosedAt, IsMarked}
+use Rattle.grammar_check_nodes.specs.Flags.{flag}
+use Rattle.grammar_check_nodes.specs.Marking.{IsClosedAt, IsMarked}
 use Rattle.grammar_tree.proofs.Lent.{contains_cases, contains_filter, contains_none, filtered, flat_mapped}
 use Rattle.normal_form.specs.declared.normal.Sym.{Sym}
 use Rattle.normal_form.specs.declared.normal.Sym.TheVariants.{Kind, Set, Rule}

@@ -2,12 +2,12 @@
 
 ghost use Rattle.std.specs.Prelude.{◌≡◌, IfOk};
 ghost use Rattle.std.specs.List.{list_all, list_any};
-ghost use Rattle.grammar_check_tables.specs.Flags.{flag};
+ghost use Rattle.grammar_check_nodes.specs.Flags.{flag};
 ghost use Rattle.normal_form.specs.View.{alts_form, rule_form};
 ghost use Rattle.compat_table.specs.Nullable.{AreNullable, form_is_nullable, is_nullable as nullable};
 
 use faults::Memory;
-use grammar_check_tables::{Condition, Test, is_flagged, least_table};
+use grammar_check_nodes::{Condition, Test, is_flagged, least_table};
 use normal_form::{Normal, NormalRule, Sym};
 use std::alloc::Global;
 
@@ -68,7 +68,7 @@ struct Rules<'a> {
 
 impl<'a> Test for Rules<'a> {
     ghost use Rattle.std.specs.Prelude.{length};
-    ghost use Rattle.grammar_check_tables.specs.Flags.{flag};
+    ghost use Rattle.grammar_check_nodes.specs.Flags.{flag};
     ghost use Rattle.compat_table.specs.Nullable.{numbered_is_nullable};
 
     type Alternative = Vec<Sym>;

@@ -2,7 +2,7 @@
 
 ghost use Rattle.std.specs.Prelude.{◌≡◌, ◌+◌, ◌<◌, ◌≤◌, ◌^◌, [], ◌∷◌, ◌++◌, IfOk, OnOk, length, map, nat_eq};
 ghost use Rattle.std.specs.List.{All, flat_map};
-ghost use Rattle.grammar_check_tables.specs.Flags.{flag};
+ghost use Rattle.grammar_check_nodes.specs.Flags.{flag};
 ghost use Rattle.normal_form.specs.View.{alts_form, rule_form};
 ghost use Rattle.compat_table.specs.inner.Rows.{IsRowOf, lone_symbols, need as need_of, needed as needed_of, next_symbols, size, size_of_all};
 ghost use Rattle.compat_table.specs.inner.View.{edges_of, symbols_of};

@@ -7,7 +7,7 @@ use Rattle.grammar_tree.specs.Faults.{IsWellFormed, NoStart, start_of}
 use Rattle.grammar_tree.specs.Kinds.{rule_name}
 use Rattle.grammar_tree.specs.Written.{WrittenRule, WrittenGrammar}
 use Rattle.grammar_tree.proofs.Lent.{start_is_found, there}
-use Rattle.grammar_check_cycles.specs.First.{Nowhere}
+use Rattle.grammar_check_nodes.specs.First.{Nowhere}
 use Rattle.grammar_check_faults.specs.Answer.{IsFirstNamed}
 use Rattle.grammar_check.specs.CheckFaults.{HoldsAt, IsFirstInTable, IsNamedAt, row}
 use Rattle.grammar_check.specs.inner.CheckFaults.{HasNoneBefore}

@@ -5,7 +5,7 @@ use Rattle.std.proofs.lemmas.Option.{same_Some}
 use Rattle.faults.specs.Memory.{ran_out}
 use Rattle.grammar_tree.specs.Faults.{NoStart, used_name}
 use Rattle.grammar_tree.specs.Written.{WrittenGrammar}
-use Rattle.grammar_check_cycles.specs.First.{Nowhere}
+use Rattle.grammar_check_nodes.specs.First.{Nowhere}
 use Rattle.grammar_check_faults.specs.Answer.{IsFirstNamed}
 use Rattle.grammar_check.specs.CheckFaults.{HoldsAt, IsFirstInTable, IsNamedAt, row}
 use Rattle.grammar_check.specs.inner.CheckFaults.{HasNoneBefore}

@@ -1,5 +1,5 @@
 pub use Rattle.faults.specs.Memory
-pub use Rattle.grammar_check_cycles.specs.First
+pub use Rattle.grammar_check_nodes.specs.First
 pub use Rattle.grammar_check_faults.specs.LexerFaults
 pub use Rattle.grammar_check_faults.specs.Answer
 pub mod CheckFaults

@@ -7,7 +7,7 @@ ghost use Rattle.grammar_tree.specs.Derives.{bodies};
 ghost use Rattle.grammar_tree.specs.Size.{grammar_size};
 ghost use Rattle.grammar_tree.specs.Written.{WrittenGrammar};
 ghost use Rattle.grammar_check.specs.inner.CheckFaults.{HasNoneBefore, IsFirstBefore};
-ghost use Rattle.grammar_check_cycles.specs.First.{IsFirstOrNone};
+ghost use Rattle.grammar_check_nodes.specs.First.{IsFirstOrNone};
 ghost use Rattle.grammar_check_faults.specs.LexerFaults.{LexerLoopAt};
 
 use crate::fault::CheckFault;

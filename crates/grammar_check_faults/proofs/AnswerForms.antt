@@ -6,7 +6,7 @@ use Rattle.grammar_tree.specs.Faults.{EmptyLoop, EmptyToken, EofPlace, FragmentL
 use Rattle.grammar_tree.specs.Kinds.{rule_name}
 use Rattle.grammar_tree.specs.Written.{WrittenRule, WrittenGrammar}
 use Rattle.grammar_check_faults.specs.Answer.{IsNamedOrNone, name_at}
-use Rattle.grammar_check_cycles.specs.First.{IsFirstOrNone}
+use Rattle.grammar_check_nodes.specs.First.{IsFirstOrNone}
 use Rattle.grammar_check_faults.specs.Twins.{IsTwinAt}
 
 -- The fact holds only where there is a rule.

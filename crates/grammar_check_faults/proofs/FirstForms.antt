@@ -5,9 +5,9 @@ use Rattle.std.proofs.lemmas.Bool.{cases_lt}
 use Rattle.std.proofs.lemmas.Option.{same_Some}
 use Rattle.grammar_tree.specs.Corners.{HasEmptyLoopAlts, bases, rests}
 use Rattle.grammar_tree.specs.Derives.{Alts, DerivesAlts}
-use Rattle.grammar_check_tables.specs.Flags.{flag}
+use Rattle.grammar_check_nodes.specs.Flags.{flag}
 use Rattle.grammar_check_parser_rules.specs.Empty.{AreEmptyRules, alts_is_empty}
-use Rattle.grammar_check_cycles.specs.First.{IsFirstOrNone, Nowhere}
+use Rattle.grammar_check_nodes.specs.First.{IsFirstOrNone, Nowhere}
 use Rattle.grammar_check_parser_rules.specs.Loops.{alts_has_loop}
 use Rattle.grammar_check_faults.specs.inner.ParserFaults.{HasLoopAt, HasNoBaseAt}
 use Rattle.grammar_check_recursion.specs.Recursion.{has_alternative}

@@ -9,7 +9,7 @@ use Rattle.grammar_tree.specs.Derives.{Alts, DerivesAlts, bodies, resolved_alts}
 use Rattle.grammar_tree.specs.Kinds.{parser_rules}
 use Rattle.grammar_tree.specs.Faults.{LeftRecursion, NoBase, number_at}
 use Rattle.grammar_tree.specs.Written.{ParserRule, WrittenRule, WrittenGrammar}
-use Rattle.grammar_check_cycles.specs.First.{IsFirst, IsFirstOrNone, Nowhere}
+use Rattle.grammar_check_nodes.specs.First.{IsFirst, IsFirstOrNone, Nowhere}
 use Rattle.grammar_tree.proofs.Lent.{numbers}
 use Rattle.grammar_check_faults.specs.ParserFaults.{ParserLoopAt}
 use Rattle.grammar_check_faults.specs.inner.ParserFaults.{HasLoopAt, HasNoBaseAt, LeadsBackAt}

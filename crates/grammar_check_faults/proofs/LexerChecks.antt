@@ -11,9 +11,9 @@ use Rattle.grammar_tree.specs.Matches.{MatchesAlts, MatchesRule}
 use Rattle.grammar_tree.specs.Written.{LexerAlts, LexerRule, WrittenRule, WrittenGrammar}
 use Rattle.grammar_tree.specs.declared.rule.Rule.{Rule}
 use Rattle.grammar_tree.proofs.Lent.{greedily, at_of_contains, lexer_place as index_of_rule}
-use Rattle.grammar_check_tables.specs.Flags.{flag}
-use Rattle.grammar_check_cycles.specs.First.{Nowhere}
-use Rattle.grammar_check_cycles.specs.Graph.{AreTargets}
+use Rattle.grammar_check_nodes.specs.Flags.{flag}
+use Rattle.grammar_check_nodes.specs.First.{Nowhere}
+use Rattle.grammar_check_nodes.specs.Graph.{AreTargets}
 use Rattle.grammar_check_lexer_rules.specs.Lexer.{AreEmptyLexerRules, OneRule, lexer_index, lexer_edges}
 use Rattle.grammar_check_faults.specs.inner.LexerFaults.{is_empty_token, is_looping_rule, is_short_rule}
 use Rattle.grammar_check_parser_rules.proofs.Lent.{and_both, nil_parts}

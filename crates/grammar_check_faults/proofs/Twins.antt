@@ -14,7 +14,7 @@ use Rattle.grammar_tree.specs.Written.{WrittenAlts, WrittenRule, WrittenGrammar}
 use Rattle.grammar_tree.proofs.Lent.{contains_at, one_name, passes_twice, some_position}
 use Rattle.grammar_check_parser_rules.specs.Rules.{has_key}
 use Rattle.grammar_check_parser_rules.specs.declared.rules.Key.TheVariants.{Name}
-use Rattle.grammar_check_cycles.specs.First.{IsFirst, Nowhere}
+use Rattle.grammar_check_nodes.specs.First.{IsFirst, Nowhere}
 use Rattle.grammar_check_lexer_rules.specs.Lexer.{OneRule}
 use Rattle.grammar_check_faults.specs.Twins.{IsTwinAt}
 use Rattle.grammar_check_faults.specs.inner.Twins.{AreFirstSoFar, IsEarliest}

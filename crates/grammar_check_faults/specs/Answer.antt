@@ -2,7 +2,7 @@
 use Rattle.std.specs.Prelude.{◌≡◌, ℕ, List, Option, Some, None, option_map, slice_get}
 use Rattle.grammar_tree.specs.Kinds.{rule_name}
 use Rattle.grammar_tree.specs.Written.{WrittenGrammar}
-use Rattle.grammar_check_cycles.specs.First.{IsFirst, Nowhere}
+use Rattle.grammar_check_nodes.specs.First.{IsFirst, Nowhere}
 
 -- the name of the rule at an index
 abbrev pub name_at : WrittenGrammar → Option ℕ → Option (List ℕ)

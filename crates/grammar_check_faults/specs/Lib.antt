@@ -1,5 +1,5 @@
 pub use Rattle.grammar_tree.specs.Faults
-pub use Rattle.grammar_check_cycles.specs.First
+pub use Rattle.grammar_check_nodes.specs.First
 pub use Rattle.grammar_check_parser_rules.specs.Empty
 pub use Rattle.grammar_check_lexer_rules.specs.Lexer
 pub mod ParserFaults

@@ -2,7 +2,7 @@
 use Rattle.std.specs.Prelude.{◌≡◌, ℕ, Some, slice_get, List, Option, None}
 use Rattle.grammar_tree.specs.Faults.{IsUnknown, NameUse, NoRuleAt, name_uses}
 use Rattle.grammar_tree.specs.Written.{WrittenGrammar}
-use Rattle.grammar_check_cycles.specs.First.{IsFirst, Nowhere}
+use Rattle.grammar_check_nodes.specs.First.{IsFirst, Nowhere}
 
 -- The use with this number is of a name that names nothing.
 abbrev pub IsUnknownAt : WrittenGrammar → ℕ → Type 0

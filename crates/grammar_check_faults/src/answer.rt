@@ -10,7 +10,7 @@ ghost use Rattle.grammar_check_faults.specs.LexerFaults.{AreEdgesOf};
 use crate::eof::first_misplaced_eof;
 use crate::rule_checks::{first_twin, name_of};
 use faults::Memory;
-use grammar_check_cycles::first_on_cycle;
+use grammar_check_nodes::first_on_cycle;
 use grammar_tree::{Grammar, Text};
 use std::alloc::Global;
 

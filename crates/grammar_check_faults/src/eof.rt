@@ -9,7 +9,7 @@ ghost use Rattle.grammar_tree.specs.View.{parser_alts, parser_term, parser_terms
 ghost use Rattle.grammar_tree.specs.Written.{written_alts, written_seq};
 ghost use Rattle.grammar_names.specs.Index.{Finds};
 ghost use Rattle.grammar_check_faults.specs.inner.Eof.{is_misplaced_rule, is_misplaced_term};
-ghost use Rattle.grammar_check_cycles.specs.First.{IsFirstOrNone};
+ghost use Rattle.grammar_check_nodes.specs.First.{IsFirstOrNone};
 ghost use Rattle.grammar_check_faults.specs.inner.Seen.{seen_in};
 
 use crate::rule_checks::name_of;

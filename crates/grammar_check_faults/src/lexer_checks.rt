@@ -3,14 +3,14 @@
 ghost use Rattle.std.specs.Prelude.{◌≡◌, ℕ, ◌<◌, ◌^◌, List, length, map};
 ghost use Rattle.grammar_tree.specs.Faults.{EmptyToken};
 ghost use Rattle.grammar_tree.specs.GrammarView.{grammar_of, rule_of};
-ghost use Rattle.grammar_check_tables.specs.Flags.{flag};
-ghost use Rattle.grammar_check_cycles.specs.First.{IsFirstOrNone};
+ghost use Rattle.grammar_check_nodes.specs.Flags.{flag};
+ghost use Rattle.grammar_check_nodes.specs.First.{IsFirstOrNone};
 ghost use Rattle.grammar_check_lexer_rules.specs.Lexer.{AreEmptyLexerRules, OneRule, lexer_index};
 ghost use Rattle.grammar_check_faults.specs.LexerFaults.{LexerLoopAt};
 ghost use Rattle.grammar_check_faults.specs.inner.LexerFaults.{is_empty_token, is_looping_rule};
 
 use grammar_check_lexer_rules::{LexerNames, lexer_alts_have_empty_loop};
-use grammar_check_tables::is_flagged;
+use grammar_check_nodes::is_flagged;
 use grammar_tree::{Grammar, Rule};
 
 /// Whether the rule makes tokens, and matches the empty text by what a table says of it.

@@ -4,11 +4,11 @@ ghost use Rattle.std.specs.Prelude.{ℕ, ◌<◌, ◌^◌, List, IfOk, length, m
 ghost use Rattle.grammar_tree.specs.Derives.{bodies};
 ghost use Rattle.grammar_tree.specs.View.{parser_alts};
 ghost use Rattle.grammar_check_parser_rules.specs.Empty.{AreBodies, AreEmptyRules};
-ghost use Rattle.grammar_check_cycles.specs.First.{IsFirstOrNone};
+ghost use Rattle.grammar_check_nodes.specs.First.{IsFirstOrNone};
 ghost use Rattle.grammar_check_faults.specs.inner.ParserFaults.{HasLoopAt, HasNoBaseAt, LeadsBackAt};
 
 use faults::Memory;
-use grammar_check_cycles::first_on_cycle;
+use grammar_check_nodes::first_on_cycle;
 use grammar_check_parser_rules::{alts_have_empty_loop, corner_edges, some_rest_can_be_empty};
 use grammar_check_recursion::has_base;
 use grammar_names::Names;

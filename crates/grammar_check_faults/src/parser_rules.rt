@@ -6,7 +6,7 @@ ghost use Rattle.grammar_tree.specs.Derives.{bodies};
 ghost use Rattle.grammar_tree.specs.Faults.{EmptyLoop, LeftRecursion, NoBase};
 ghost use Rattle.grammar_tree.specs.View.{parser_alts};
 ghost use Rattle.grammar_check_parser_rules.specs.Empty.{AreBodies, AreEmptyRules};
-ghost use Rattle.grammar_check_cycles.specs.First.{IsFirstOrNone};
+ghost use Rattle.grammar_check_nodes.specs.First.{IsFirstOrNone};
 ghost use Rattle.grammar_check_faults.specs.LexerFaults.{LexerLoopAt};
 ghost use Rattle.grammar_check_faults.specs.ParserFaults.{ParserLoopAt};
 ghost use Rattle.grammar_check_faults.specs.ParserIndices.{indices_from};

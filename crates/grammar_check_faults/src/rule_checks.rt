@@ -6,16 +6,15 @@ ghost use Rattle.grammar_tree.specs.Faults.{NoStart, FragmentLoop, ShortUse, is_
 ghost use Rattle.grammar_tree.specs.GrammarView.{grammar_of, rule_of};
 ghost use Rattle.grammar_tree.specs.Kinds.{rule_name};
 ghost use Rattle.grammar_names.specs.Index.{Finds};
-ghost use Rattle.grammar_check_cycles.specs.First.{IsFirstOrNone, Nowhere};
+ghost use Rattle.grammar_check_nodes.specs.First.{IsFirstOrNone, Nowhere};
 ghost use Rattle.grammar_check_faults.specs.LexerFaults.{AreEdgesOf};
 ghost use Rattle.grammar_check_faults.specs.inner.LexerFaults.{is_short_rule};
 ghost use Rattle.grammar_check_faults.specs.Twins.{IsTwinAt};
 ghost use Rattle.grammar_check_faults.specs.inner.Twins.{IsEarliest};
 
 use faults::Memory;
-use grammar_check_cycles::targets;
+use grammar_check_nodes::{is_flagged, targets};
 use grammar_check_parser_rules::{Key, rules_by};
-use grammar_check_tables::is_flagged;
 use grammar_names::Index;
 use grammar_tree::{Grammar, Rule, Text};
 use std::alloc::Global;

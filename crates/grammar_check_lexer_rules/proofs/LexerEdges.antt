@@ -7,9 +7,8 @@ use Rattle.grammar_tree.specs.Faults.{Uses, UsesThrough, used_names}
 use Rattle.grammar_tree.specs.Kinds.{lexer_rules}
 use Rattle.grammar_tree.specs.Written.{LexerRule, WrittenRule, WrittenGrammar}
 use Rattle.grammar_tree.proofs.Lent.{contains_cases, contains_filter_map, contains_first}
-use Rattle.grammar_tree.proofs.Lent.{elements_contains_later as contains_later, contains_none, at_of_contains}
-use Rattle.grammar_tree.proofs.Lent.{lexer_place as index_of_rule}
-use Rattle.grammar_check_cycles.specs.Graph.{HasEdge, IsClosed, Reaches}
+use Rattle.grammar_tree.proofs.Lent.{elements_contains_later as contains_later, contains_none, at_of_contains, lexer_place as index_of_rule}
+use Rattle.grammar_check_nodes.specs.Graph.{HasEdge, IsClosed, Reaches}
 use Rattle.grammar_check_lexer_rules.specs.Lexer.{OneRule, lexer_index, lexer_successors, lexer_edges}
 use Rattle.grammar_check_lexer_rules.proofs.LexerFacts.{contains_rule, index_of_name, rule_of_index}
 

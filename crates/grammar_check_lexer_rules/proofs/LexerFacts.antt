@@ -12,11 +12,11 @@ use Rattle.grammar_tree.specs.Kinds.{as_lexer_rule, lexer_rules}
 use Rattle.grammar_tree.proofs.Lent.{contains_filter_map, some_position, at_of_contains, contains_at, lexer_place as index_of_rule}
 use Rattle.grammar_tree.specs.Matches.{Matches, MatchesAlts, MatchesMany, MatchesSeq}
 use Rattle.grammar_tree.specs.Written.{LexerTerm, LexerSeq, LexerAlts, LexerRule, WrittenAlts, WrittenRule}
-use Rattle.grammar_check_tables.specs.Flags.{flag}
+use Rattle.grammar_check_nodes.specs.Flags.{flag}
 use Rattle.grammar_check_lexer_rules.specs.Lexer.{AreEmptyLexerRules, OneRule, is_nil, lexer_alts_are_empty, lexer_alts_have_loop}
 use Rattle.grammar_check_lexer_rules.specs.Lexer.{lexer_has_loop, lexer_is_empty, lexer_index, lexer_seq_has_loop, lexer_seq_is_empty}
 use Rattle.grammar_check_lexer_rules.specs.inner.Lexer.{lexer_rule_is_empty, rule_is_empty}
-use Rattle.grammar_check_tables.specs.Marking.{IsClosedAt, IsMarked}
+use Rattle.grammar_check_nodes.specs.Marking.{IsClosedAt, IsMarked}
 use Rattle.grammar_check_parser_rules.specs.Rules.{has_key}
 use Rattle.grammar_check_parser_rules.specs.declared.rules.Key.TheVariants.{LexerName}
 use Rattle.grammar_check_parser_rules.proofs.Lent.{and_both, from_both, from_first, from_second, nil_parts, or_one}

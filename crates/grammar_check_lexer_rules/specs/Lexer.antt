@@ -6,7 +6,7 @@ use Rattle.grammar_tree.specs.Written.{LexerTerm, LexerSeq, LexerAlts, LexerRule
 use Rattle.grammar_tree.specs.Faults.{used_names}
 use Rattle.grammar_tree.specs.Kinds.{lexer_rules, rule_name}
 use Rattle.grammar_tree.specs.Matches.{MatchesAlts}
-use Rattle.grammar_check_tables.specs.Flags.{flag}
+use Rattle.grammar_check_nodes.specs.Flags.{flag}
 use Rattle.grammar_check_parser_rules.specs.Rules.{has_key}
 use Rattle.grammar_check_parser_rules.specs.declared.rules.Key.TheVariants.{LexerName}
 

@@ -1,3 +1,3 @@
-pub use Rattle.grammar_check_tables.specs.Flags
+pub use Rattle.grammar_check_nodes.specs.Flags
 pub mod Lexer
 pub mod inner

@@ -6,13 +6,13 @@ ghost use Rattle.grammar_tree.specs.Faults.{seq_names, term_names, used_names};
 ghost use Rattle.grammar_tree.specs.View.{lex_alts, lex_term, lex_terms};
 ghost use Rattle.grammar_tree.specs.GrammarView.{rule_of};
 ghost use Rattle.grammar_tree.specs.Written.{LexerTerm, lexer_alts, lexer_seq};
-ghost use Rattle.grammar_check_tables.specs.Flags.{flag};
+ghost use Rattle.grammar_check_nodes.specs.Flags.{flag};
 ghost use Rattle.grammar_check_lexer_rules.specs.Lexer.{is_nil, lexer_alts_are_empty, lexer_alts_have_loop, lexer_has_loop};
 ghost use Rattle.grammar_check_lexer_rules.specs.Lexer.{lexer_is_empty, lexer_index, lexer_seq_has_loop, lexer_seq_is_empty};
 
 use crate::lexer_names::LexerNames;
 use faults::Memory;
-use grammar_check_tables::is_flagged;
+use grammar_check_nodes::is_flagged;
 use grammar_tree::{LexAlts, LexTerm, LexTerms, Text};
 
 /// Whether the rule of a name matches the empty text, where the table says which rules do.

@@ -11,7 +11,7 @@ ghost use Rattle.grammar_check_lexer_rules.specs.Lexer.{AreEmptyLexerRules, OneR
 use crate::lexer_names::LexerNames;
 use crate::lexer_rules::{add_names, alts_can_be_empty, is_empty_text};
 use faults::Memory;
-use grammar_check_tables::{Condition, Test, least_table};
+use grammar_check_nodes::{Condition, Test, least_table};
 use grammar_tree::{LexAlts, LexTerm, LexTerms, Rule, Text};
 use std::alloc::Global;
 

@@ -12,9 +12,9 @@ use Rattle.grammar_tree.specs.Kinds.{name_kind, parser_rules, rule_number}
 use Rattle.grammar_tree.specs.Written.{ParserRule, WrittenTerm, WrittenSeq, WrittenAlts, WrittenGrammar}
 use Rattle.grammar_tree.proofs.Lent.{leads as front, numbers}
 use Rattle.grammar_check_parser_rules.specs.Corners.{AreCornerEdges, alts_corners, corners, rule_corners, seq_corners}
-use Rattle.grammar_check_tables.specs.Flags.{flag}
+use Rattle.grammar_check_nodes.specs.Flags.{flag}
 use Rattle.grammar_check_parser_rules.specs.Empty.{AreEmptyRules, alts_is_empty, is_empty}
-use Rattle.grammar_check_cycles.specs.Graph.{IsClosed, IsOnCycle}
+use Rattle.grammar_check_nodes.specs.Graph.{IsClosed, IsOnCycle}
 use Rattle.grammar_check_parser_rules.proofs.CornerFacts.{leads, reaches}
 
 nothing : (x : ℕ) → Contains [] x → ⊥

@@ -7,9 +7,9 @@ use Rattle.std.proofs.lemmas.Option.{same_Some}
 use Rattle.grammar_tree.specs.Derives.{Term, Seq, Alts, Derives, DerivesAlts}
 use Rattle.grammar_tree.specs.Corners.{Begins, BeginsSeq, BeginsAlts, HasEmptyLoop, HasEmptyLoopSeq, HasEmptyLoopAlts, IsLeftCorner, LeadsTo, bases, rests}
 use Rattle.grammar_check_parser_rules.specs.Corners.{alts_corners, corners, rule_corners, seq_corners}
-use Rattle.grammar_check_tables.specs.Flags.{flag}
+use Rattle.grammar_check_nodes.specs.Flags.{flag}
 use Rattle.grammar_check_parser_rules.specs.Empty.{AreEmptyRules, alts_is_empty, is_empty}
-use Rattle.grammar_check_cycles.specs.Graph.{HasEdge, Reaches}
+use Rattle.grammar_check_nodes.specs.Graph.{HasEdge, Reaches}
 use Rattle.grammar_check_parser_rules.specs.Loops.{alts_has_loop, has_loop, seq_has_loop}
 use Rattle.grammar_check_parser_rules.proofs.EmptyRules.{alts_empty, empty, found, found_in_alts, or_one, from_first, from_second}
 

@@ -6,10 +6,10 @@ use Rattle.std.proofs.lemmas.Bool.{cases_eq}
 use Rattle.std.proofs.lemmas.Option.{same_Some, slice_get-map, slice_get_within}
 use Rattle.grammar_tree.specs.Written.{WrittenTerm, WrittenGrammar, written_alts}
 use Rattle.grammar_tree.specs.Derives.{Term, Seq, Alts, Derives, DerivesMany, DerivesSeq, DerivesAlts, bodies, resolved_alts}
-use Rattle.grammar_check_tables.specs.Flags.{flag}
+use Rattle.grammar_check_nodes.specs.Flags.{flag}
 use Rattle.grammar_check_parser_rules.specs.Empty.{AreBodies, AreEmptyRules, alts_is_empty, is_empty, seq_is_empty}
 use Rattle.grammar_check_parser_rules.specs.inner.Empty.{body_is_empty}
-use Rattle.grammar_check_tables.specs.Marking.{IsClosedAt, IsMarked}
+use Rattle.grammar_check_nodes.specs.Marking.{IsClosedAt, IsMarked}
 
 pub and_both : (b c : Bool) → (b && c) ≡ true → (b ≡ true) × (c ≡ true)
 and_both true c e = (refl, e)

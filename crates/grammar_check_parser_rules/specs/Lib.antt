@@ -1,5 +1,5 @@
 pub use Rattle.grammar_names.specs.Index
-pub use Rattle.grammar_check_tables.specs.Flags
+pub use Rattle.grammar_check_nodes.specs.Flags
 pub mod Empty
 pub mod Loops
 pub mod Corners

@@ -5,7 +5,7 @@ ghost use Rattle.grammar_tree.specs.Derives.{resolved, resolved_alts, resolved_s
 ghost use Rattle.grammar_tree.specs.View.{parser_alts, parser_term, parser_terms};
 ghost use Rattle.grammar_tree.specs.Written.{WrittenTerm, written_alts, written_seq};
 ghost use Rattle.grammar_check_parser_rules.specs.Corners.{alts_corners, corners, seq_corners};
-ghost use Rattle.grammar_check_tables.specs.Flags.{flag};
+ghost use Rattle.grammar_check_nodes.specs.Flags.{flag};
 
 use crate::empty::term_can_be_empty;
 use faults::Memory;

@@ -7,7 +7,7 @@ ghost use Rattle.grammar_check_parser_rules.specs.Empty.{AreBodies, AreEmptyRule
 
 use crate::empty::alts_can_be_empty;
 use faults::Memory;
-use grammar_check_tables::{Condition, Test, least_table};
+use grammar_check_nodes::{Condition, Test, least_table};
 use grammar_names::Names;
 use grammar_tree::{ParserAlts, ParserTerm, ParserTerms};
 use std::alloc::Global;

@@ -4,7 +4,7 @@ ghost use Rattle.std.specs.Prelude.{◌≡◌};
 ghost use Rattle.grammar_tree.specs.Derives.{resolved, resolved_alts, resolved_seq};
 ghost use Rattle.grammar_tree.specs.View.{parser_alts, parser_term, parser_terms};
 ghost use Rattle.grammar_tree.specs.Written.{written_alts, written_seq};
-ghost use Rattle.grammar_check_tables.specs.Flags.{flag};
+ghost use Rattle.grammar_check_nodes.specs.Flags.{flag};
 ghost use Rattle.grammar_check_parser_rules.specs.Loops.{alts_has_loop, has_loop, seq_has_loop};
 
 use crate::empty::term_can_be_empty;

@@ -7,7 +7,7 @@ ghost use Rattle.grammar_tree.specs.Derives.{bodies, resolved, resolved_alts, re
 ghost use Rattle.grammar_tree.specs.View.{parser_alts, parser_term, parser_terms};
 ghost use Rattle.grammar_tree.specs.Written.{written_alts, written_seq};
 ghost use Rattle.grammar_check_parser_rules.specs.Corners.{AreCornerEdges, alts_corners, rule_corners};
-ghost use Rattle.grammar_check_tables.specs.Flags.{flag};
+ghost use Rattle.grammar_check_nodes.specs.Flags.{flag};
 ghost use Rattle.grammar_check_parser_rules.specs.Empty.{AreBodies, alts_is_empty, is_empty, seq_is_empty};
 ghost use Rattle.grammar_check_parser_rules.specs.inner.Recursion.{is_empty_base};
 

@@ -1,6 +1,9 @@
 pub use Rattle.faults.specs.Memory
 pub use Rattle.grammar_reader_notation.specs.Reads
 pub use Rattle.grammar_check.specs.CheckFaults
+pub use Rattle.grammar_pair.specs.Joined
 pub mod Answer
 pub mod Message
 pub mod Laws
+pub mod PairAnswer
+pub mod PairMessage

@@ -1,1 +1,22 @@
+mod Blocks
+mod Rest
+mod Unroll
+mod ParserSteps
+mod LexerSteps
+mod WordSteps
+mod Runs
+mod Regions
+mod RegionSteps
+mod Following
+mod Going
+mod Leading
+mod Known
+mod Classes
+mod Names
+mod Seen
+mod Fitting
+mod Firsts
+mod Deeper
+mod Called
 mod Reading
+pub mod Lent

@@ -8,18 +8,18 @@ use Rattle.grammar_reader_words.specs.declared.word.Placed.{Placed}
 use Rattle.grammar_reader_notation.specs.Sets.{outside}
 use Rattle.grammar_reader_machine.specs.Machine as m
 use Rattle.grammar_reader_machine.specs.Machine.{State, AtStart, AtEnd, step}
-use Rattle.grammar_reader_laws.specs.WordByWord.{run}
+use Rattle.grammar_reader.specs.WordByWord.{run}
 use Rattle.grammar_reader_notation.specs.Notation.{IsTextOf, BeginsOf, IsText}
-use Rattle.grammar_reader_laws.proofs.Lent.{Region, starting, heading, between, prequel, named, opening, body, suffixed, looped, last, command, finished, next}
-use Rattle.grammar_reader_laws.proofs.Lent.{Keeps, region_of, region_of_owner, region_of_value, keeps_step, reached, stuck, accepts, further, accepted}
-use Rattle.grammar_reader_laws.proofs.Lent.{EndsText, end_step}
+use Rattle.grammar_reader.proofs.Regions.{Region, starting, heading, between, prequel, named, opening, body, suffixed, looped, last, command, finished, next}
+use Rattle.grammar_reader.proofs.RegionSteps.{Keeps, region_of, region_of_owner, region_of_value, keeps_step}
+use Rattle.grammar_reader.proofs.Runs.{reached, stuck, accepts, further, accepted, EndsText, end_step}
 use Rattle.std.specs.Str.{IsUtf8}
 use Rattle.grammar_reader_notation.specs.declared.fault.ReadFault.{ReadFault}
 use Rattle.grammar_reader_notation.specs.declared.fault.ReadFault.TheVariants as f
 use Rattle.grammar_reader_notation.specs.Naming.{IsNamed}
 use Rattle.grammar_reader_notation.specs.Reads.{only_words, IsFirstFault, IsFaultOf}
-use Rattle.grammar_reader_faults.specs.Rows.{fault_at}
-use Rattle.grammar_reader_laws.proofs.Lent as called
+use Rattle.grammar_reader.specs.Rows.{fault_at}
+use Rattle.grammar_reader.proofs.Called as called
 
 -- No bad word can follow, and no set with a property.
 
@@ -185,7 +185,7 @@ module _ (bytes : List ℕ) (remaining more : List Placed) (p : Placed) (s : Sta
     cut = whole;
     begun = reached 64 s (only_words r.before) r.read;
     stuck = λ b. stuck 64 (only_words r.before ++ p.word ∷ []) (now None f) (subst (BeginsOf 64) (snoc r.before p) b);
-    named = called.called_named (only_words r.before) s r.read p f;
+    named = called.named (only_words r.before) s r.read p f;
   }
 
   pub no_text : (G : WrittenGrammar) → step 64 s p.word ≡ None → IsText (only_words (words_of bytes)) G → ⊥

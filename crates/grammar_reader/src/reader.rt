@@ -10,11 +10,11 @@ ghost use Rattle.grammar_reader.specs.inner.Ended.{IsEnded};
 ghost use Rattle.grammar_reader_notation.specs.Reads.{IsFaultOf, IsProfile, IsReadAs};
 ghost use Rattle.grammar_reader_machine.specs.View.{state_of};
 
+use crate::naming::fault_at;
+use crate::steps::step;
 use faults::Memory;
-use grammar_reader_faults::fault_at;
 use grammar_reader_machine::State;
 use grammar_reader_notation::ReadFault;
-use grammar_reader_step::step;
 use grammar_reader_words::{Placed, Words};
 use grammar_tree::Grammar;
 use std::alloc::Global;

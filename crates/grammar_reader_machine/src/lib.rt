@@ -5,7 +5,7 @@
 //! state, or none where the word can't follow. Of `grammar G; s : 'x' ;` the words lead from `AtStart`
 //! to `AtEnd`, which has the grammar. A state in memory is a [`State`], which contracts see through
 //! `state_of` in `specs/View.antt`, and the one after a word, or none, is a [`Next`]. The step of states
-//! in memory is `grammar_reader_step::step`.
+//! in memory is `step` of `grammar_reader`.
 #![tactic(auto)]
 
 mod frame;

@@ -6,8 +6,8 @@ use Rattle.std.proofs.Math.ListN.{set}
 use Rattle.std.proofs.lemmas.Bool.{cases_lt}
 use Rattle.std.proofs.lemmas.List.Elements.{Contains-append_left, Contains-push, Contains-push_cases}
 use Rattle.std.proofs.lemmas.Option.{same_Some}
-use Rattle.grammar_check_cycles.specs.Graph.{HasEdge, Reaches}
-use Rattle.grammar_check_cycles.proofs.Lent.{further, row_at}
+use Rattle.grammar_check_nodes.specs.Graph.{HasEdge, Reaches}
+use Rattle.grammar_check_nodes.proofs.Lent.{further, row_at}
 use Rattle.lexer_match.specs.declared.nfa.State.{State}
 use Rattle.lexer_match.specs.Nfa.{GoesBelow, IsClosed, Reads}
 use Rattle.lexer_match.specs.inner.StateSets.{GoesFrom, GoesTo}

@@ -5,8 +5,8 @@ use Rattle.std.specs.Prelude.{eqb, not}
 use Rattle.std.proofs.Math.ListN.{set}
 use Rattle.std.proofs.lemmas.Bool.{cases_lt, eq-eqb}
 use Rattle.std.proofs.Math.Dec.{eqb-suc-zero}
-use Rattle.grammar_check_cycles.specs.Graph.{HasEdge, Reaches}
-use Rattle.grammar_check_cycles.proofs.Lent.{further}
+use Rattle.grammar_check_nodes.specs.Graph.{HasEdge, Reaches}
+use Rattle.grammar_check_nodes.proofs.Lent.{further}
 use Rattle.grammar_tree.specs.Chars.{has}
 use Rattle.lexer.specs.inner.Live.{AreReadFlags, LeadsFrom, LeadsTo, StepsFrom}
 use Rattle.lexer_match.specs.declared.nfa.State.{State}

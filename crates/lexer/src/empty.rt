@@ -1,13 +1,13 @@
 //! Which states of an NFA read the empty text.
 
 ghost use Rattle.std.specs.Prelude.{◌≡◌, ◌⊎◌, ◌↔◌, ◌<◌, ◌^◌, ℕ, IfOk, OnOk, length, map, vec_len};
-ghost use Rattle.grammar_check_cycles.specs.Graph.{HasEdge};
+ghost use Rattle.grammar_check_nodes.specs.Graph.{HasEdge};
 ghost use Rattle.lexer.specs.inner.Gaps.{AreEmptyFlags};
 ghost use Rattle.lexer_match.specs.Nfa.{IsClosed};
 ghost use Rattle.lexer_match.specs.inner.StateSets.{GoesFrom, GoesTo};
 
 use faults::{Limit, Memory};
-use grammar_check_cycles::reached_from;
+use grammar_check_nodes::reached_from;
 use lexer_match::State;
 use std::alloc::Global;
 

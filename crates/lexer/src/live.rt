@@ -1,7 +1,7 @@
 //! Which states of an NFA are live: they read a character, and then some text.
 
 ghost use Rattle.std.specs.Prelude.{◌≡◌, ◌⊎◌, ◌↔◌, ◌<◌, ◌^◌, ℕ, Some, true, false, IfOk, OnOk, length, map, vec_len, slice_index_or};
-ghost use Rattle.grammar_check_cycles.specs.Graph.{HasEdge};
+ghost use Rattle.grammar_check_nodes.specs.Graph.{HasEdge};
 ghost use Rattle.grammar_tree.specs.Chars.{has};
 ghost use Rattle.lexer.specs.inner.Live.{AreReadFlags, LeadsFrom, LeadsTo, StepsFrom};
 ghost use Rattle.lexer_match.specs.Live.{AreLive};
@@ -9,7 +9,7 @@ ghost use Rattle.lexer_match.specs.Nfa.{IsClosed};
 
 use crate::empty::{add_edge, add_source, no_sources};
 use faults::{Limit, Memory};
-use grammar_check_cycles::reached_from;
+use grammar_check_nodes::reached_from;
 use grammar_tree::CharSet;
 use lexer_match::State;
 use std::alloc::Global;

@@ -2,7 +2,7 @@
 use Rattle.std.specs.Prelude.{◌≡◌, ◌<◌, ℕ, List, Option, Some, None}
 use Rattle.grammar_tree.specs.Faults as fault
 use Rattle.grammar_tree.specs.Written.{WrittenGrammar}
-use Rattle.grammar_check_cycles.specs.First.{IsFirstOrNone}
+use Rattle.grammar_check_nodes.specs.First.{IsFirstOrNone}
 use Rattle.grammar_check_faults.specs.LexerFaults.{LexerLoopAt}
 use Rattle.grammar_check.specs.declared.fault.Answer.{Answer}
 use Rattle.grammar_check.specs.declared.fault.Answer.TheVariants.{Broken, Fine}

@@ -2,7 +2,7 @@
 use Rattle.std.specs.Prelude.{ℕ, Bool, false, List, Option, slice_get}
 use Rattle.std.specs.Option.{option_map_or}
 use Rattle.grammar_tree.specs.Written.{WrittenRule}
-use Rattle.grammar_check_tables.specs.Flags.{flag}
+use Rattle.grammar_check_nodes.specs.Flags.{flag}
 use Rattle.grammar_check_lexer_rules.specs.Lexer.{lexer_alts_are_empty, lexer_index}
 
 -- whether the rule matches the empty text, where a table says which rules do; no parser rule does

@@ -3,7 +3,7 @@ use Rattle.std.specs.Prelude.{ℕ, Bool, false, List, slice_get}
 use Rattle.std.specs.Option.{option_map_or}
 use Rattle.grammar_tree.specs.Written.{WrittenTerm, WrittenGrammar, written_alts}
 use Rattle.grammar_tree.specs.Derives.{resolved_alts}
-use Rattle.grammar_check_tables.specs.Flags.{flag}
+use Rattle.grammar_check_nodes.specs.Flags.{flag}
 use Rattle.grammar_check_parser_rules.specs.Empty.{alts_is_empty}
 
 -- whether the alternatives of the rule with this number can be empty, where a table says which rules can; false past the last rule

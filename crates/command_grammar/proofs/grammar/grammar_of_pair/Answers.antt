@@ -1,7 +1,7 @@
 use Rattle.std.proofs.Common.{◌≢◌, refl, rules}
 use Rattle.faults.specs.Memory.{ran_out}
-use Rattle.grammar_load_pair.specs.Message.{pair_grammar_fault_text}
-use Rattle.grammar_load_pair.specs.declared.fault.PairGrammarFault.TheVariants as fault
+use Rattle.grammar_load.specs.PairMessage.{pair_grammar_fault_text}
+use Rattle.grammar_load.specs.declared.pair_fault.PairGrammarFault.TheVariants as fault
 use Rattle.command_words.specs.Lines.{grammar_read}
 use Rattle.command_grammar.specs.Texts.{GrammarTexts}
 use Rattle.command_grammar.proofs.GrammarLemmas.{has_fault, pair_small, spells_named}

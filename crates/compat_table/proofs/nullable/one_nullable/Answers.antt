@@ -1,5 +1,5 @@
 use Rattle.std.proofs.Common.{ap, false, get_or, sym, true, ◌||◌, ◌∙◌, ◌≡◌}
-use Rattle.grammar_check_tables.specs.Flags.{flag}
+use Rattle.grammar_check_nodes.specs.Flags.{flag}
 use Rattle.compat_table.proofs.Nulling.{any_form}
 use Rattle.compat_table.specs.Nullable.{is_nullable}
 use Rattle.normal_form.specs.declared.normal.Sym.{Sym}

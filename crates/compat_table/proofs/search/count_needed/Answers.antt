@@ -1,5 +1,5 @@
 use Rattle.std.proofs.Common.{ap, arith, drop-cons}
-use Rattle.grammar_check_tables.specs.Flags.{flag}
+use Rattle.grammar_check_nodes.specs.Flags.{flag}
 use Rattle.normal_form.specs.declared.normal.Sym.TheVariants.{Kind}
 use Rattle.compat_table.specs.inner.Rows.{needed}
 use Rattle.compat_table.proofs.Nulling.{needed_within}

@@ -1,5 +1,5 @@
 use Rattle.std.proofs.Common.{◌≡◌, ◌+◌, drop}
-use Rattle.grammar_check_tables.specs.Flags.{flag}
+use Rattle.grammar_check_nodes.specs.Flags.{flag}
 use Rattle.compat_table.specs.inner.Rows.{needed}
 use Rattle.compat_table.proofs.search.count_needed.Given as goal
 

@@ -1,5 +1,5 @@
 use Rattle.std.proofs.Common.{◌≡◌, map, take}
-use Rattle.grammar_check_tables.specs.Flags.{flag}
+use Rattle.grammar_check_nodes.specs.Flags.{flag}
 use Rattle.normal_form.specs.View.{rule_form}
 use Rattle.compat_table.specs.inner.Rows.{next_symbols}
 use Rattle.compat_table.specs.inner.View.{edges_of}

@@ -1,7 +1,7 @@
 use Rattle.std.proofs.Common.{List, ◌++◌, take, sym, ap, ◌∙◌}
 use Rattle.std.specs.Global.{Vec}
 use Rattle.std.specs.List.{flat_map}
-use Rattle.grammar_check_tables.specs.Flags.{flag}
+use Rattle.grammar_check_nodes.specs.Flags.{flag}
 use Rattle.normal_form.specs.declared.normal.Sym.{Sym}
 use Rattle.normal_form.specs.View.{alts_form}
 use Rattle.compat_table.specs.inner.Rows.{lone_symbols}

@@ -1,6 +1,6 @@
 use Rattle.std.proofs.Common.{◌≡◌, ◌++◌, take}
 use Rattle.std.specs.Prelude.{filter, nat_eq}
-use Rattle.grammar_check_tables.specs.Flags.{flag}
+use Rattle.grammar_check_nodes.specs.Flags.{flag}
 use Rattle.normal_form.specs.declared.normal.Sym.{Sym}
 use Rattle.compat_table.specs.inner.Rows.{need}
 use Rattle.compat_table.proofs.search.push_lone.Given as goal

@@ -6,7 +6,7 @@ use Rattle.grammar_tree.specs.Faults.{EmptyLoop, LeftRecursion, NoBase}
 use Rattle.grammar_tree.specs.GrammarView.{grammar_of, rule_of}
 use Rattle.grammar_tree.specs.Written.{WrittenGrammar}
 use Rattle.grammar_tree.proofs.Lent.{counts_fit}
-use Rattle.grammar_check_cycles.specs.First.{IsFirstOrNone}
+use Rattle.grammar_check_nodes.specs.First.{IsFirstOrNone}
 use Rattle.grammar_check_faults.proofs.Lent.{baseless_are_rules, empty_loops_in_rules, named_first, recursive_are_rules, with_name}
 use Rattle.grammar_check.proofs.CheckForms.{before_count, before_empty_loops, before_recursion, empty_loop, left_recursion, no_base}
 use Rattle.grammar_check.proofs.parser_fault.parser_fault.Goals as goal

@@ -1,8 +1,8 @@
 use Rattle.std.proofs.Common.{ℕ, List, sym, subst}
 use Rattle.grammar_tree.specs.Faults.{FragmentLoop}
 use Rattle.grammar_tree.specs.GrammarView.{grammar_of}
-use Rattle.grammar_check_cycles.specs.First.{IsFirstOrNone}
-use Rattle.grammar_check_cycles.specs.Graph.{IsClosed, IsOnCycle}
+use Rattle.grammar_check_nodes.specs.First.{IsFirstOrNone}
+use Rattle.grammar_check_nodes.specs.Graph.{IsClosed, IsOnCycle}
 use Rattle.grammar_check_lexer_rules.specs.Lexer.{lexer_edges}
 use Rattle.grammar_check_lexer_rules.proofs.Lent.{closed, loops, uses_itself}
 use Rattle.grammar_check_faults.proofs.AnswerForms.{loops_are_rules, named_first}

@@ -2,7 +2,7 @@ use Rattle.std.proofs.Common.{◌≡◌, true, false, sym, ap, ◌∙◌, arith}
 use Rattle.grammar_tree.specs.Faults.{EmptyToken}
 use Rattle.grammar_tree.specs.GrammarView.{grammar_of, rule_of}
 use Rattle.grammar_tree.specs.Written.{WrittenRule}
-use Rattle.grammar_check_tables.specs.Flags.{flag}
+use Rattle.grammar_check_nodes.specs.Flags.{flag}
 use Rattle.grammar_check_faults.specs.inner.LexerFaults.{is_empty_token}
 use Rattle.grammar_check_faults.proofs.FirstForms.{not_here, nowhere}
 use Rattle.grammar_check_faults.proofs.LexerChecks.{empty_token, no_empty_token, index_within, rule_at}

@@ -2,7 +2,7 @@ use Rattle.std.proofs.Common.{◌≡◌, List, map, true, false, sym, ap, ◌∙
 use Rattle.grammar_tree.specs.GrammarView.{grammar_of, rule_of}
 use Rattle.grammar_tree.specs.Written.{WrittenRule}
 use Rattle.grammar_tree.specs.declared.rule.Rule.{Rule}
-use Rattle.grammar_check_tables.specs.Flags.{flag}
+use Rattle.grammar_check_nodes.specs.Flags.{flag}
 use Rattle.grammar_check_lexer_rules.specs.Lexer.{lexer_index}
 use Rattle.grammar_check_faults.specs.LexerFaults.{LexerLoopAt}
 use Rattle.grammar_check_faults.specs.inner.LexerFaults.{is_looping_rule}

@@ -1,8 +1,8 @@
 use Rattle.std.proofs.Common.{ℕ, List, Vec, Global, IfOk, map, sym, subst}
 use Rattle.grammar_tree.specs.Derives.{bodies}
-use Rattle.grammar_check_tables.specs.Flags.{flag}
-use Rattle.grammar_check_cycles.specs.First.{IsFirstOrNone}
-use Rattle.grammar_check_cycles.specs.Graph.{IsClosed, IsOnCycle}
+use Rattle.grammar_check_nodes.specs.Flags.{flag}
+use Rattle.grammar_check_nodes.specs.First.{IsFirstOrNone}
+use Rattle.grammar_check_nodes.specs.Graph.{IsClosed, IsOnCycle}
 use Rattle.grammar_check_faults.specs.inner.ParserFaults.{LeadsBackAt}
 use Rattle.grammar_check_parser_rules.proofs.Lent.{back_leads, closed, leads_back}
 use Rattle.grammar_check_faults.proofs.FirstForms.{ok_first}

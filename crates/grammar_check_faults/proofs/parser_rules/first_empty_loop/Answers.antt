@@ -1,7 +1,7 @@
 use Rattle.std.proofs.Common.{ℕ, Option, sym, subst}
 use Rattle.grammar_tree.specs.Faults.{EmptyLoop}
 use Rattle.grammar_tree.specs.GrammarView.{grammar_of}
-use Rattle.grammar_check_cycles.specs.First.{IsFirstOrNone}
+use Rattle.grammar_check_nodes.specs.First.{IsFirstOrNone}
 use Rattle.grammar_check_faults.specs.LexerFaults.{LexerLoopAt}
 use Rattle.grammar_check_faults.specs.ParserFaults.{ParserLoopAt}
 use Rattle.grammar_check_faults.proofs.IndexForms.{earlier_of}

@@ -1,6 +1,6 @@
 use Rattle.std.proofs.Common.{ℕ, Option, sym, ap, ◌∙◌, subst}
 use Rattle.grammar_tree.specs.Derives.{bodies}
-use Rattle.grammar_check_cycles.specs.First.{IsFirstOrNone}
+use Rattle.grammar_check_nodes.specs.First.{IsFirstOrNone}
 use Rattle.grammar_check_faults.specs.ParserFaults.{ParserLoopAt}
 use Rattle.grammar_check_faults.specs.inner.ParserFaults.{HasLoopAt}
 use Rattle.grammar_check_faults.specs.inner.ParserIndices.{index_at}

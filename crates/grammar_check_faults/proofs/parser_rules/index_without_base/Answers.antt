@@ -1,7 +1,7 @@
 use Rattle.std.proofs.Common.{ℕ, Option, sym, ap, ◌∙◌, subst}
 use Rattle.grammar_tree.specs.Derives.{bodies}
 use Rattle.grammar_tree.specs.Faults.{NoBase}
-use Rattle.grammar_check_cycles.specs.First.{IsFirstOrNone}
+use Rattle.grammar_check_nodes.specs.First.{IsFirstOrNone}
 use Rattle.grammar_check_faults.specs.inner.ParserFaults.{HasNoBaseAt}
 use Rattle.grammar_check_faults.specs.inner.ParserIndices.{index_at}
 use Rattle.grammar_check_faults.proofs.IndexForms.{bases_by_index, first_index}

@@ -1,7 +1,7 @@
 use Rattle.std.proofs.Common.{ℕ, Option, sym, ap, ◌∙◌, subst}
 use Rattle.grammar_tree.specs.Derives.{bodies}
 use Rattle.grammar_tree.specs.Faults.{LeftRecursion}
-use Rattle.grammar_check_cycles.specs.First.{IsFirstOrNone}
+use Rattle.grammar_check_nodes.specs.First.{IsFirstOrNone}
 use Rattle.grammar_check_faults.specs.inner.ParserFaults.{LeadsBackAt}
 use Rattle.grammar_check_faults.specs.inner.ParserIndices.{index_at}
 use Rattle.grammar_check_faults.proofs.IndexForms.{recursion_by_index, first_index}

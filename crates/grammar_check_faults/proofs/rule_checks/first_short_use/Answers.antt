@@ -2,8 +2,8 @@ use Rattle.std.proofs.Common.{◌≡◌, ◌&&◌, ℕ, List, true, false, sym, 
 use Rattle.grammar_tree.specs.Faults.{ShortUse}
 use Rattle.grammar_tree.specs.GrammarView.{grammar_of, rule_of}
 use Rattle.grammar_tree.specs.Written.{WrittenRule}
-use Rattle.grammar_check_tables.specs.Flags.{flag}
-use Rattle.grammar_check_cycles.specs.Graph.{AreTargets, IsClosed}
+use Rattle.grammar_check_nodes.specs.Flags.{flag}
+use Rattle.grammar_check_nodes.specs.Graph.{AreTargets, IsClosed}
 use Rattle.grammar_check_faults.specs.inner.LexerFaults.{is_short_rule}
 use Rattle.grammar_check_faults.proofs.FirstForms.{not_here, nowhere}
 use Rattle.grammar_check_faults.proofs.LexerChecks.{no_short_use, index_within, rule_at, short_use}

@@ -6,7 +6,7 @@ use Rattle.grammar_tree.specs.declared.lex_term.LexAlts.{out-LexAlts}
 use Rattle.grammar_tree.specs.declared.lex_term.LexTerm.{LexTerm}
 use Rattle.grammar_tree.specs.declared.lex_term.LexTerms.{LexTerms, out-LexTerms}
 use Rattle.grammar_tree.proofs.Lent.{lex_term-Short}
-use Rattle.grammar_check_tables.specs.Flags.{flag}
+use Rattle.grammar_check_nodes.specs.Flags.{flag}
 use Rattle.grammar_check_lexer_rules.specs.Lexer.{lexer_is_empty, lexer_index, lexer_seq_is_empty}
 use Rattle.grammar_check_lexer_rules.proofs.LexerForms.{empty_alts, empty_seq}
 use Rattle.grammar_check_parser_rules.proofs.Lent.{all_fails, all_pass, any_passes, none_passes}

@@ -5,7 +5,7 @@ use Rattle.grammar_tree.specs.View.{lex_term, lex_terms}
 use Rattle.grammar_tree.specs.Written.{lexer_seq}
 use Rattle.grammar_tree.specs.declared.lex_term.LexAlts.{out-LexAlts}
 use Rattle.grammar_tree.specs.declared.lex_term.LexTerms.{out-LexTerms}
-use Rattle.grammar_check_tables.specs.Flags.{flag}
+use Rattle.grammar_check_nodes.specs.Flags.{flag}
 use Rattle.grammar_check_lexer_rules.specs.Lexer.{lexer_has_loop, lexer_index, lexer_seq_has_loop}
 use Rattle.grammar_check_lexer_rules.proofs.lexer_rules.+lexer_loops.Given as goal
 

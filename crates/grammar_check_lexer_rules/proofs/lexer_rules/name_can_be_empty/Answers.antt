@@ -1,6 +1,6 @@
 use Rattle.std.proofs.Common.{ℕ, Option, false, sym, ap, ◌∙◌}
 use Rattle.std.specs.Option.{option_map_or}
-use Rattle.grammar_check_tables.specs.Flags.{flag}
+use Rattle.grammar_check_nodes.specs.Flags.{flag}
 use Rattle.grammar_check_lexer_rules.proofs.lexer_rules.name_can_be_empty.Goals as goal
 
 pub returns-in-None : goal.returns-in-None

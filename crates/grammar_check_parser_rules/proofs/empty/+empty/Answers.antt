@@ -6,7 +6,7 @@ use Rattle.grammar_tree.specs.declared.parser_term.ParserAlts.{out-ParserAlts}
 use Rattle.grammar_tree.specs.declared.parser_term.ParserTerm.{ParserTerm}
 use Rattle.grammar_tree.specs.declared.parser_term.ParserTerms.{ParserTerms, out-ParserTerms}
 use Rattle.grammar_tree.proofs.Lent.{parser_term-Plus}
-use Rattle.grammar_check_tables.specs.Flags.{flag}
+use Rattle.grammar_check_nodes.specs.Flags.{flag}
 use Rattle.grammar_check_parser_rules.specs.Empty.{is_empty, seq_is_empty}
 use Rattle.grammar_check_parser_rules.proofs.EmptyForms.{alts_by_any, seq_by_all}
 use Rattle.grammar_check_parser_rules.proofs.Traversed.{all_fails, all_pass, any_passes, none_passes}

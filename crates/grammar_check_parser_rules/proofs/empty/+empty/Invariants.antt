@@ -5,7 +5,7 @@ use Rattle.grammar_tree.specs.declared.parser_term.ParserTerms.{out-ParserTerms}
 use Rattle.grammar_tree.specs.Derives.{resolved, resolved_seq}
 use Rattle.grammar_tree.specs.View.{parser_term, parser_terms}
 use Rattle.grammar_tree.specs.Written.{written_seq}
-use Rattle.grammar_check_tables.specs.Flags.{flag}
+use Rattle.grammar_check_nodes.specs.Flags.{flag}
 use Rattle.grammar_check_parser_rules.specs.Empty.{is_empty, seq_is_empty}
 use Rattle.grammar_check_parser_rules.proofs.empty.+empty.Given as goal
 

@@ -6,7 +6,7 @@ use Rattle.grammar_tree.specs.declared.parser_term.ParserAlts.{out-ParserAlts}
 use Rattle.grammar_tree.specs.declared.parser_term.ParserTerm.{ParserTerm}
 use Rattle.grammar_tree.specs.declared.parser_term.ParserTerms.{ParserTerms, out-ParserTerms}
 use Rattle.grammar_tree.proofs.Lent.{parser_term-Opt}
-use Rattle.grammar_check_tables.specs.Flags.{flag}
+use Rattle.grammar_check_nodes.specs.Flags.{flag}
 use Rattle.grammar_check_parser_rules.specs.Loops.{has_loop, seq_has_loop}
 use Rattle.grammar_check_parser_rules.proofs.LoopForms.{alts_by_any, seq_by_any}
 use Rattle.grammar_check_parser_rules.proofs.Traversed.{any_passes, none_passes}

@@ -7,7 +7,7 @@ use Rattle.grammar_tree.specs.View.{parser_terms}
 use Rattle.grammar_tree.specs.Written.{written_seq}
 use Rattle.grammar_tree.specs.declared.parser_term.ParserTerms.{ParserTerms}
 use Rattle.grammar_check_parser_rules.specs.Corners.{seq_corners}
-use Rattle.grammar_check_tables.specs.Flags.{flag}
+use Rattle.grammar_check_nodes.specs.Flags.{flag}
 use Rattle.grammar_check_parser_rules.proofs.RecursionForms.{rest_corners_by_flat}
 use Rattle.grammar_check_parser_rules.proofs.recursion.add_rest_corners.Goals as goal
 

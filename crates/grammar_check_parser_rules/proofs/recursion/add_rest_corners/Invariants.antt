@@ -6,7 +6,7 @@ use Rattle.grammar_tree.specs.Derives.{resolved_seq}
 use Rattle.grammar_tree.specs.View.{parser_terms}
 use Rattle.grammar_tree.specs.Written.{written_seq}
 use Rattle.grammar_check_parser_rules.specs.Corners.{seq_corners}
-use Rattle.grammar_check_tables.specs.Flags.{flag}
+use Rattle.grammar_check_nodes.specs.Flags.{flag}
 use Rattle.grammar_check_parser_rules.proofs.recursion.add_rest_corners.Given as goal
 
 abbrev pub invariant-loop-terms : goal.invariant-loop-terms

@@ -5,7 +5,7 @@ use Rattle.grammar_tree.specs.Written.{WrittenTerm, written_alts}
 use Rattle.grammar_tree.specs.declared.parser_term.ParserAlts.{ParserAlts}
 use Rattle.std.proofs.lemmas.List.{length-map}
 use Rattle.grammar_check_parser_rules.specs.Corners.{rule_corners}
-use Rattle.grammar_check_tables.specs.Flags.{flag}
+use Rattle.grammar_check_nodes.specs.Flags.{flag}
 use Rattle.grammar_check_parser_rules.proofs.CornerEdges.{successors_push}
 use Rattle.grammar_check_parser_rules.proofs.EmptyRules.{body_at}
 use Rattle.grammar_check_parser_rules.proofs.BodyForms.{body_within}

@@ -1,7 +1,7 @@
 use Rattle.std.proofs.Common.{◌≡◌, ℕ, ◌<◌, Some, map, slice_get, vec_len}
 use Rattle.grammar_tree.specs.Derives.{Alts, bodies}
 use Rattle.grammar_check_parser_rules.specs.Corners.{rule_corners}
-use Rattle.grammar_check_tables.specs.Flags.{flag}
+use Rattle.grammar_check_nodes.specs.Flags.{flag}
 use Rattle.grammar_check_parser_rules.proofs.recursion.corner_edges.Given as goal
 
 abbrev pub invariant-loop-number : goal.invariant-loop-number

@@ -3,7 +3,7 @@ use Rattle.std.specs.List.{list_any}
 use Rattle.grammar_tree.specs.Derives.{resolved_seq}
 use Rattle.grammar_tree.specs.View.{parser_terms}
 use Rattle.grammar_tree.specs.Written.{written_seq}
-use Rattle.grammar_check_tables.specs.Flags.{flag}
+use Rattle.grammar_check_nodes.specs.Flags.{flag}
 use Rattle.grammar_check_parser_rules.specs.inner.Recursion.{is_empty_base}
 use Rattle.grammar_check_parser_rules.proofs.recursion.some_base_can_be_empty.Given as goal
 

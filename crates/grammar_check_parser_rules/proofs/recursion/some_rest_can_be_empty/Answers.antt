@@ -6,7 +6,7 @@ use Rattle.grammar_tree.specs.Derives.{resolved_seq}
 use Rattle.grammar_tree.specs.View.{parser_terms}
 use Rattle.grammar_tree.specs.Written.{WrittenGrammar, written_seq}
 use Rattle.grammar_tree.specs.declared.parser_term.ParserTerms.{ParserTerms}
-use Rattle.grammar_check_tables.specs.Flags.{flag}
+use Rattle.grammar_check_nodes.specs.Flags.{flag}
 use Rattle.grammar_check_parser_rules.specs.Empty.{seq_is_empty}
 use Rattle.grammar_check_parser_rules.proofs.RecursionForms.{rests_by_any}
 use Rattle.grammar_check_parser_rules.proofs.Traversed.{any_passes, none_passes}

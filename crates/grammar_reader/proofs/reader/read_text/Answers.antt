@@ -5,7 +5,7 @@ use Rattle.grammar_reader_machine.specs.declared.state.State.{State}
 use Rattle.grammar_reader_machine.specs.View.{state_of, Gives}
 use Rattle.grammar_reader_machine.specs.Machine as m
 use Rattle.grammar_reader_notation.specs.Reads.{IsFirstFault}
-use Rattle.grammar_reader_faults.specs.Rows.{fault_at}
+use Rattle.grammar_reader.specs.Rows.{fault_at}
 use Rattle.grammar_reader.proofs.Reading.{IsReading, goes_on, stops, is_fault, no_text, is_text, same_text}
 use Rattle.grammar_reader_notation.proofs.Lent.{profile_fits}
 use Rattle.grammar_reader.proofs.reader.read_text.Goals as goal

@@ -1,5 +1,5 @@
 use Rattle.std.proofs.Common.{◌≡◌, ℕ, map, vec_len}
-use Rattle.grammar_check_cycles.specs.Graph.{HasEdge}
+use Rattle.grammar_check_nodes.specs.Graph.{HasEdge}
 use Rattle.lexer.proofs.empty.no_sources.Given as goal
 
 abbrev pub invariant-loop : goal.invariant-loop

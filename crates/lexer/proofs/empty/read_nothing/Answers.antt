@@ -1,6 +1,6 @@
 use Rattle.std.proofs.Common.{◌↔◌, ℕ, List, Vec, Global, map, length, ap, sym, subst, arith}
 use Rattle.std.proofs.lemmas.List.{length-map}
-use Rattle.grammar_check_cycles.specs.Graph.{HasEdge}
+use Rattle.grammar_check_nodes.specs.Graph.{HasEdge}
 use Rattle.lexer_match.specs.inner.StateSets.{GoesTo}
 use Rattle.lexer.proofs.EmptyTexts.{edge_inside, read_nothing}
 use Rattle.lexer.proofs.empty.read_nothing.Goals as goal

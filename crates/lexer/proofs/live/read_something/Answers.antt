@@ -1,6 +1,6 @@
 use Rattle.std.proofs.Common.{◌↔◌, ℕ, List, Vec, Global, map, length, ap, sym, subst, arith}
 use Rattle.std.proofs.lemmas.List.{length-map}
-use Rattle.grammar_check_cycles.specs.Graph.{HasEdge}
+use Rattle.grammar_check_nodes.specs.Graph.{HasEdge}
 use Rattle.lexer.specs.inner.Live.{LeadsTo}
 use Rattle.lexer.proofs.LiveStates.{read_flags, source_inside}
 use Rattle.lexer.proofs.live.read_something.Goals as goal

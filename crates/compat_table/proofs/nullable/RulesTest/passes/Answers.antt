@@ -1,5 +1,5 @@
 use Rattle.std.proofs.Common.{◌≡◌, ◌<◌, List, Some, ap, arith, false, length, slice_get, subst, sym, ◌∙◌}
-use Rattle.grammar_check_tables.specs.Flags.{flag}
+use Rattle.grammar_check_nodes.specs.Flags.{flag}
 use Rattle.compat_table.proofs.Searching.{got_at}
 use Rattle.compat_table.specs.Nullable.{form_is_nullable}
 use Rattle.normal_form.specs.Form.{RuleForm}

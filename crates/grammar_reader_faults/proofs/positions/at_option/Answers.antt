@@ -1,7 +1,0 @@
-use Rattle.std.proofs.Common.{sym, ap}
-use Rattle.grammar_reader_machine.specs.View.{state_of}
-use Rattle.grammar_reader_faults.specs.Positions.{at_option}
-use Rattle.grammar_reader_faults.proofs.positions.at_option.Goals as goal
-
-pub returns-in-Entry : goal.returns-in-Entry
-returns-in-Entry c = sym (ap (λ s. at_option (state_of s)) c.in-Entry.is)

@@ -1,5 +1,0 @@
-use Rattle.grammar_reader_laws.proofs.Called.{named}
-use Rattle.grammar_reader_laws.proofs.laws.faults_are_named.Goals as goal
-
-pub returns : goal.returns
-returns c = λ before s current read none. named before s read current none

@@ -1,5 +1,0 @@
-use Rattle.grammar_reader_laws.proofs.Runs.{accepts, accepted, reached, stuck}
-use Rattle.grammar_reader_laws.proofs.laws.texts_are_read.Goals as goal
-
-pub returns : goal.returns
-returns c = record { read = accepts 64; ended = accepted 64; goes_on = λ words s e. reached 64 s words e; stops = stuck 64 }

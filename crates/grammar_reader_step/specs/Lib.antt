@@ -1,2 +1,0 @@
-pub use Rattle.grammar_reader_machine.specs.Machine
-pub use Rattle.grammar_reader_machine.specs.View
