@@ -1,7 +1,7 @@
 -- The spellings of an input's start are those that a speller takes.
 use Rattle.std.proofs.Common.{◌≡◌, ℕ, List, sym, subst}
 use Rattle.grammar_tree.specs.Lexes.{PlacedToken}
-use Rattle.token_laws.specs.Laws.{AreInOrder, TokensAreInOrder}
+use Rattle.token_print.specs.LexingLaws.{AreInOrder, TokensAreInOrder}
 use Rattle.reduce_trees_mode.specs.Input.{TreeInput, IsInput}
 
 module _ (input : TreeInput) (start : List ℕ) (tokens : List PlacedToken) (starts : start ≡ input.start) (has : tokens ≡ input.tokens) where

@@ -11,7 +11,7 @@ use reduce_trees::{HasInput, TreeParts};
 use reduce_walk::TreeWalk;
 use spell_shrink::{Speller, Words, hdd_speller, perses_speller};
 use std::alloc::Global;
-use token_laws::tokens_are_in_order;
+use token_print::tokens_are_in_order;
 
 /// The spellings of the parts' start.
 fn spellings_of<'a, F: Relation + Drop>(

@@ -23,7 +23,7 @@ use Rattle.run_problem.specs.Problem.{IsCandidateOf, IsProblem, IsReductionOf, P
 use Rattle.run_problem.specs.Read.{IsFoundIn}
 use Rattle.run_problem.specs.Reducer.{reducer_of}
 use Rattle.lexer.specs.Tokens.{HasTokens}
-use Rattle.token_laws.specs.Laws.{TokensAreUnique}
+use Rattle.token_print.specs.LexingLaws.{TokensAreUnique}
 use Rattle.verdict_table.specs.TableState.{verdict_in}
 use Rattle.cert_check.specs.declared.finding.Finding.{Finding}
 use Rattle.cert_check.specs.declared.finding.Finding.TheVariants.{Yes, No}
@@ -31,8 +31,7 @@ use Rattle.cert_check.specs.declared.finding.Why.TheVariants.{Torn, OtherStart}
 use Rattle.cert_check.specs.declared.setup.Setup.{Setup}
 use Rattle.cert_check.specs.declared.setup.Setup.TheVariants as setup
 use Rattle.cert_check.specs.Findings.{IsConfirmed, IsFinishedRun, IsFound, IsItsResult, IsOfStart, RefusesStart}
-use Rattle.cert_check.specs.Laws.{ConfirmedAreReductions, FinishedRunsAreConfirmed, IsGuardedBy, IsRunTo, IsStartAdmitted}
-use Rattle.cert_check.specs.Laws.{OneIsFound, ReducersAreReductions}
+use Rattle.cert_check.specs.Laws.{ConfirmedAreReductions, FinishedRunsAreConfirmed, IsGuardedBy, IsRunTo, IsStartAdmitted, OneIsFound, ReducersAreReductions}
 use Rattle.cert_check.specs.Setup.{CanBeChecked, HasOptions, IsSetupOf, admits_in}
 use Rattle.cert_check_texts.specs.Laws.{IsInputFrom}
 use Rattle.cert_check_texts.specs.Texts.{IsTreeStart, TreeStart}

@@ -44,7 +44,7 @@ use reduce_walk::TreeWalk;
 use run_problem::tree_parts;
 use script_gate_trait::Bytes;
 use std::alloc::Global;
-use token_laws::tokens_are_unique;
+use token_print::tokens_are_unique;
 
 /// The files of a run: its output, and its journal as it was read.
 #[derive(Clone, Copy)]

@@ -4,8 +4,8 @@ use Rattle.std.proofs.Common.{length-append, arith, refl, sym, ap, ◌∙◌, ap
 use Rattle.std.specs.Prelude.{◌↔◌}
 use Rattle.std.proofs.lemmas.List.{drop-drop, drop_at, length-drop}
 use Rattle.grammar_tree.specs.Lexes.{PlacedToken}
-use Rattle.token_laws.specs.Laws.{AreInOrder}
-use Rattle.token_laws.specs.Spelling.{spelling_at}
+use Rattle.token_print.specs.LexingLaws.{AreInOrder}
+use Rattle.token_print.specs.Spelling.{spelling_at}
 use Rattle.token_print.specs.declared.style.Skips.{Skips}
 use Rattle.token_print.specs.declared.style.Style.{Style}
 use Rattle.token_print.specs.Printed.{after, before, printed_after}

@@ -13,7 +13,7 @@ use Rattle.normal_form.specs.Form.{NormalForm}
 use Rattle.normal_form.specs.Laws.{EqualLanguages}
 use Rattle.normal_form.specs.NormalDerives.{NormalDerives}
 use Rattle.normal_form.specs.NormalOf.{normal_of}
-use Rattle.token_laws.specs.Laws.{TokensAreUnique, TokensHaveNoStop}
+use Rattle.token_print.specs.LexingLaws.{TokensAreUnique, TokensHaveNoStop}
 use Rattle.token_print.specs.declared.style.Style.{Style}
 use Rattle.reduce_trees_mode.specs.Candidates.{InLanguage}
 use Rattle.keep_guard.specs.Keep.{holds_all}

@@ -7,7 +7,7 @@ use Rattle.std.proofs.lemmas.Bool.{cases_eq, cases_lt, ne_eqb}
 use Rattle.std.proofs.lemmas.List.{drop-drop, drop_at}
 use Rattle.std.proofs.lemmas.List.Elements.{All-cons, All-head, All-tail}
 use Rattle.grammar_tree.specs.Lexes.{PlacedToken}
-use Rattle.token_laws.specs.Spelling.{gap_text, spelling_at}
+use Rattle.token_print.specs.Spelling.{gap_text, spelling_at}
 use Rattle.token_print.specs.declared.style.Skips.{Skips}
 use Rattle.token_print.specs.declared.style.Style.{Style}
 use Rattle.token_print.specs.Printed.{before, printed_after, separator}

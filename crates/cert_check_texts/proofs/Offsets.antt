@@ -9,8 +9,8 @@ use Rattle.std.proofs.lemmas.Option.{slice_get-get_or, slice_get-map, slice_get_
 use Rattle.grammar_tree.specs.Lexes.{PlacedToken}
 use Rattle.lexer.specs.Tokens.{token_of}
 use Rattle.lexer.specs.declared.token.Token.{Token}
-use Rattle.token_laws.specs.Laws.{AreInOrder, IsSlice}
-use Rattle.token_laws.specs.Spelling.{spelling, spelling_at}
+use Rattle.token_print.specs.LexingLaws.{AreInOrder, IsSlice}
+use Rattle.token_print.specs.Spelling.{spelling, spelling_at}
 use Rattle.token_print.proofs.Lent.{slice}
 
 module _ (text : List ℕ) (tokens : List Token) where

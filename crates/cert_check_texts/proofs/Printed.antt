@@ -15,9 +15,9 @@ use Rattle.normal_form.specs.Form.{NormalForm}
 use Rattle.normal_form.specs.NormalOf.{normal_of}
 use Rattle.reduce_step.specs.Limits.{text_limit}
 use Rattle.reduce_trees_mode.specs.Candidates.{InLanguage}
-use Rattle.token_laws.specs.Laws.{AreInOrder, IsSlice, TokensAreInOrder, TokensAreLongestMatches, TokensAreUnique}
-use Rattle.token_laws.specs.Spelling.{kind_and_spelling, kinds_and_spellings, spelling, spelling_at}
-use Rattle.token_laws.specs.Spells.{EqualCharactersEqualBytes, SpellsTokens}
+use Rattle.token_print.specs.LexingLaws.{AreInOrder, IsSlice, TokensAreInOrder, TokensAreLongestMatches, TokensAreUnique}
+use Rattle.token_print.specs.Spelling.{kind_and_spelling, kinds_and_spellings, spelling, spelling_at}
+use Rattle.token_print.specs.Spells.{EqualCharactersEqualBytes, SpellsTokens}
 use Rattle.token_print.specs.Laws.{PrintedOneWay}
 use Rattle.token_print.specs.declared.style.Skips.{Skips}
 use Rattle.token_print.specs.declared.style.Style.{Style}

@@ -9,8 +9,8 @@ use Rattle.std.proofs.lemmas.List.Elements.{All-contains, All-head, All-tail}
 use Rattle.std.proofs.lemmas.Option.{slice_get_cases}
 use Rattle.grammar_tree.specs.Written.{WrittenGrammar}
 use Rattle.grammar_tree.specs.Lexes.{IsNext, KindMatches, Piece, PlacedToken}
-use Rattle.token_laws.specs.Spelling.{kind_and_spelling, kinds_and_spellings, spelling, spelling_at}
-use Rattle.token_laws.specs.Spells.{EqualCharactersEqualBytes}
+use Rattle.token_print.specs.Spelling.{kind_and_spelling, kinds_and_spellings, spelling, spelling_at}
+use Rattle.token_print.specs.Spells.{EqualCharactersEqualBytes}
 use Rattle.cert_check_texts.specs.inner.Reached.{RiseAfter}
 use Rattle.cert_check_texts.proofs.Conses.{head_of, nothing_is, tail_of}
 

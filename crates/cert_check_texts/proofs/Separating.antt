@@ -4,7 +4,7 @@ use Rattle.std.proofs.Common.{◌≡◌, ◌⊎◌, inl, inr, ◌+◌, ◌<◌, 
 use Rattle.std.proofs.lemmas.Bool.{cases_lt}
 use Rattle.std.proofs.lemmas.List.{get_or_append_left, get_or_push}
 use Rattle.grammar_tree.specs.Lexes.{PlacedToken}
-use Rattle.token_laws.specs.Spelling.{gap_text}
+use Rattle.token_print.specs.Spelling.{gap_text}
 use Rattle.token_print.specs.declared.style.Skips.{Skips}
 use Rattle.token_print.specs.Printed.{separator}
 use Rattle.cert_check_texts.specs.inner.Reached.{AreSeparators}

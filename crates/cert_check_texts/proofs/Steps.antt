@@ -14,7 +14,7 @@ use Rattle.cert_check_texts.specs.declared.numbers.Numbers.{Numbers}
 use Rattle.cert_check_texts.specs.declared.prints.Print.{Print}
 use Rattle.lexer.specs.Tokens.{token_of}
 use Rattle.lexer.specs.declared.token.Token.{Token}
-use Rattle.token_laws.specs.Spelling.{spelling, spelling_at}
+use Rattle.token_print.specs.Spelling.{spelling, spelling_at}
 use Rattle.cert_check_texts.proofs.Layers.{came, first_pairs, some_next}
 use Rattle.cert_check_texts.proofs.Members.{none_in}
 

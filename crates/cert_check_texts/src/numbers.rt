@@ -5,8 +5,8 @@ ghost use Rattle.std.specs.Str.{bytes_eq};
 ghost use Rattle.lexer.specs.Tokens.{token_of};
 ghost use Rattle.reduce_core.specs.Lines.{lines_of};
 ghost use Rattle.reduce_step.specs.Limits.{text_limit};
-ghost use Rattle.token_laws.specs.Laws.{AreInOrder};
-ghost use Rattle.token_laws.specs.Spelling.{spelling_at};
+ghost use Rattle.token_print.specs.LexingLaws.{AreInOrder};
+ghost use Rattle.token_print.specs.Spelling.{spelling_at};
 ghost use Rattle.cert_check_texts.specs.inner.Numbers.{HasNumbers, line_at, listed_with};
 
 use faults::Memory;

@@ -3,8 +3,8 @@
 ghost use Rattle.std.specs.Prelude.{◌≡◌, ◌↔◌, ◌<◌, ◌+◌, ◌-◌, ◌*◌, ◌^◌, ℕ, List, [], All, None, Some, IfOk, IsTrue, MatchOption, OnOk, length, map, min};
 ghost use Rattle.std.specs.Prelude.{nat_eq, cond, suc};
 ghost use Rattle.lexer.specs.Tokens.{token_of};
-ghost use Rattle.token_laws.specs.Laws.{AreInOrder, IsSlice};
-ghost use Rattle.token_laws.specs.Spelling.{gap_text, spelling, spelling_at};
+ghost use Rattle.token_print.specs.LexingLaws.{AreInOrder, IsSlice};
+ghost use Rattle.token_print.specs.Spelling.{gap_text, spelling, spelling_at};
 ghost use Rattle.token_print.specs.Printed.{before, separator};
 ghost use Rattle.std.specs.List.{Contains};
 ghost use Rattle.cert_check_texts.specs.declared.reached.Reached.{Reached as SomeReached};

@@ -24,11 +24,10 @@ use normal_form::{Normal, Sym, equal_languages};
 use normal_form_build::normalise;
 use std::alloc::Global;
 use std::marker::Model;
-use token_laws::{
-    equal_characters_equal_bytes, tokens_are_in_order, tokens_are_longest_matches,
-    tokens_are_unique, tokens_have_no_stop,
+use token_print::{
+    Layout, Skips, Style, equal_characters_equal_bytes, printed_one_way, skips,
+    tokens_are_in_order, tokens_are_longest_matches, tokens_are_unique, tokens_have_no_stop,
 };
-use token_print::{Layout, Skips, Style, printed_one_way, skips};
 
 /// A start with its tokens, by a grammar, and the texts that stay.
 #[derive(Drop)]

@@ -11,8 +11,8 @@ use Rattle.normal_form.specs.declared.normal.Sym.{Sym}
 use Rattle.normal_form.specs.declared.normal.Sym.TheVariants.{Rule}
 use Rattle.normal_form.specs.Form.{RuleForm, NormalForm}
 use Rattle.normal_form.specs.View.{alts_form, rule_form}
-use Rattle.normal_form_spans.specs.Spans.{DerivesSpan, DerivesSpanMany, DerivesSpanSeq}
-use Rattle.normal_form_spans.specs.SpanLaws.{SpansByForm}
+use Rattle.normal_form.specs.Spans.{DerivesSpan, DerivesSpanMany, DerivesSpanSeq}
+use Rattle.normal_form.specs.SpanLaws.{SpansByForm}
 use Rattle.chart_parser.specs.declared.part.Part.{Part}
 use Rattle.chart_parser.specs.inner.GoingOn.{IsListOf}
 use Rattle.chart_parser.specs.inner.Parts.{IsContent}

@@ -12,7 +12,7 @@ use Rattle.std.specs.List.{Contains}
 use Rattle.std.specs.List.Sorted.{IsStrictlyIncreasing}
 use Rattle.normal_form.specs.declared.normal.Sym.{Sym}
 use Rattle.normal_form.specs.Form.{NormalForm}
-use Rattle.normal_form_spans.specs.Spans.{DerivesSpan, DerivesSpanSeq}
+use Rattle.normal_form.specs.Spans.{DerivesSpan, DerivesSpanSeq}
 use Rattle.syntax_tree.specs.Preferred.{IsLongest}
 use Rattle.chart_parser_ends.specs.Input.{ChartInput}
 use Rattle.chart_parser_ends.specs.Positions.{EndsUpTo, HasAll, HasExactly, IsGrown, IsGreatest, IsLastAmong}

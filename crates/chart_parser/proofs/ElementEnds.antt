@@ -11,7 +11,7 @@ use Rattle.std.specs.List.{Contains}
 use Rattle.std.specs.List.Sorted.{IsStrictlyIncreasing}
 use Rattle.normal_form.specs.declared.normal.Sym.{Sym}
 use Rattle.normal_form.specs.Form.{NormalForm}
-use Rattle.normal_form_spans.specs.Spans.{DerivesSpan, DerivesSpanMany}
+use Rattle.normal_form.specs.Spans.{DerivesSpan, DerivesSpanMany}
 use Rattle.syntax_tree.specs.Preferred.{IsLongest}
 use Rattle.chart_parser_ends.specs.Positions.{EndsUpTo, HasAll, HasExactly, IsGrown, IsGreatest, IsLastAmong}
 use Rattle.chart_parser_ends.proofs.Lent.{joins, lists, spans}

@@ -5,8 +5,8 @@ use Rattle.std.proofs.lemmas.List.{append-nil}
 use Rattle.normal_form.specs.declared.normal.Sym.{Sym}
 use Rattle.normal_form.specs.declared.normal.Sym.TheVariants.{Kind, Set, Rule}
 use Rattle.normal_form.specs.Form.{RuleForm, NormalForm}
-use Rattle.normal_form_spans.specs.Spans.{DerivesSpan}
-use Rattle.normal_form_spans.specs.SpanLaws.{SpansByForm}
+use Rattle.normal_form.specs.Spans.{DerivesSpan}
+use Rattle.normal_form.specs.SpanLaws.{SpansByForm}
 use Rattle.syntax_tree.specs.declared.node.Node.{Node}
 use Rattle.syntax_tree.specs.Trees.{PlainTree, PlainTrees, count, renumbered_all, size, size_all, weight, weight_all}
 use Rattle.syntax_tree.specs.Valid.{slots_of}

@@ -5,7 +5,7 @@ use Rattle.std.specs.Option.{option_map_or}
 use Rattle.normal_form.specs.declared.normal.Sym.{Sym}
 use Rattle.normal_form.specs.declared.normal.Sym.TheVariants.{Rule}
 use Rattle.normal_form.specs.Form.{RuleForm, NormalForm}
-use Rattle.normal_form_spans.specs.Spans.{DerivesSpan}
+use Rattle.normal_form.specs.Spans.{DerivesSpan}
 use Rattle.syntax_tree.specs.Trees.{PlainTree, PlainTrees, count}
 use Rattle.syntax_tree.specs.Valid.{slots_of, slots_of_form}
 use Rattle.syntax_tree.specs.Preferred.{Preferred, PreferredSeq, PreferredMany}

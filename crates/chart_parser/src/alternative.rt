@@ -2,7 +2,7 @@
 
 ghost use Rattle.std.specs.Prelude.{◌≡◌, ◌+◌, ◌<◌, ◌≤◌, [], false, length, IfOk, IsTrue, OnOk};
 ghost use Rattle.std.specs.List.Sorted.{IsStrictlyIncreasing};
-ghost use Rattle.normal_form_spans.specs.Spans.{DerivesSpanSeq};
+ghost use Rattle.normal_form.specs.Spans.{DerivesSpanSeq};
 ghost use Rattle.chart_parser_ends.specs.Positions.{HasAll, HasExactly};
 ghost use Rattle.chart_parser.specs.inner.GoingOn.{AreGoingOn, AreReached, EndsFrom, Meets};
 ghost use Rattle.chart_parser.specs.inner.Parts.{AreParts};

@@ -1,7 +1,7 @@
 //! How the span of a rule is cut into those of its children.
 
 ghost use Rattle.std.specs.Prelude.{◌≡◌, ◌⊎◌, ◌<◌, ◌≤◌, ◌^◌, ℕ, List, [], Some, length, slice_get, IfOk, OnOk};
-ghost use Rattle.normal_form_spans.specs.Spans.{DerivesSpan, DerivesSpanSeq};
+ghost use Rattle.normal_form.specs.Spans.{DerivesSpan, DerivesSpanSeq};
 ghost use Rattle.normal_form.specs.declared.normal.Sym;
 ghost use Rattle.normal_form.specs.View.{alts_form};
 ghost use Rattle.chart_parser.specs.inner.Parts.{AreOfLeast, AreOfRule, IsContent};
@@ -11,8 +11,7 @@ use crate::elements::add_list;
 use crate::part::Part;
 use chart_parser_ends::Chart;
 use faults::Memory;
-use normal_form::{Normal, NormalRule, Sym, numbers_are_small};
-use normal_form_spans::{elements_move_on, spans_by_form};
+use normal_form::{Normal, NormalRule, Sym, elements_move_on, numbers_are_small, spans_by_form};
 use std::alloc::Global;
 
 /// The number of the first alternative that derives the span, with its parts.

@@ -3,7 +3,7 @@
 ghost use Rattle.std.specs.Prelude.{◌≡◌, ◌<◌, ◌≤◌, ℕ, [], drop, length, vec_len, IfOk, OnOk};
 ghost use Rattle.std.specs.List.{Contains};
 ghost use Rattle.std.specs.List.Sorted.{IsStrictlyIncreasing};
-ghost use Rattle.normal_form_spans.specs.Spans.{DerivesSpanMany};
+ghost use Rattle.normal_form.specs.Spans.{DerivesSpanMany};
 ghost use Rattle.chart_parser_ends.specs.Positions.{HasExactly};
 ghost use Rattle.chart_parser.specs.inner.GoingOn.{ElementsGoOn, HasEndsOfElements, IsClosedBefore, IsListOf, MovesOn};
 ghost use Rattle.chart_parser.specs.inner.Parts.{AreElements};

@@ -1,7 +1,7 @@
 //! The nodes of a preferred tree, each before those below it, from left to right.
 
 ghost use Rattle.std.specs.Prelude.{◌≡◌, ◌+◌, ◌<◌, ◌^◌, ◌++◌, ◌∷◌, [], length, map, reverse, slice_index, vec_len, IfOk, OnOk};
-ghost use Rattle.normal_form_spans.specs.Spans.{DerivesSpan};
+ghost use Rattle.normal_form.specs.Spans.{DerivesSpan};
 ghost use Rattle.normal_form.specs.declared.normal.Sym;
 ghost use Rattle.syntax_tree.specs.Nodes.{AreNodesOf};
 ghost use Rattle.syntax_tree.specs.Preferred.{Preferred};
@@ -13,8 +13,7 @@ use crate::choice::rule_parts;
 use crate::part::{Asked, Part};
 use chart_parser_ends::Chart;
 use faults::{Limit, Memory};
-use normal_form::{Normal, Sym};
-use normal_form_spans::spans_by_form;
+use normal_form::{Normal, Sym, spans_by_form};
 use std::alloc::Global;
 use syntax_tree::{Node, preferred_trees_are_valid};
 

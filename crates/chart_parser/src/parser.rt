@@ -2,7 +2,7 @@
 
 ghost use Rattle.std.specs.Prelude.{◌≡◌, ◌<◌, ◌^◌, length, IfOk, MatchOption};
 ghost use Rattle.normal_form.specs.NormalDerives.{NormalDerives};
-ghost use Rattle.normal_form_spans.specs.Spans.{DerivesSpan};
+ghost use Rattle.normal_form.specs.Spans.{DerivesSpan};
 ghost use Rattle.chart_parser.specs.Parse.{IsParse};
 
 use crate::nodes::preferred_nodes;

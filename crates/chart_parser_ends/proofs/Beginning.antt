@@ -9,7 +9,7 @@ use Rattle.normal_form.specs.declared.normal.NormalRule.{NormalRule}
 use Rattle.normal_form.specs.Form.{RuleForm, NormalForm}
 use Rattle.normal_form.specs.View.{alts_form, rule_form}
 use Rattle.normal_form.specs.declared.normal.Sym.{Sym}
-use Rattle.normal_form_spans.specs.Spans.{DerivesSpan}
+use Rattle.normal_form.specs.Spans.{DerivesSpan}
 use Rattle.chart_parser_ends.specs.Input.{ChartInput}
 use Rattle.chart_parser_ends.specs.inner.Working.{HasAlternatives}
 use Rattle.chart_parser_ends.specs.Positions.{EndsUpTo, HasAll, HasExactly, IsGrown}

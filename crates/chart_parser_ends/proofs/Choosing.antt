@@ -10,7 +10,7 @@ use Rattle.std.specs.List.Sorted.{IsStrictlyIncreasing}
 use Rattle.normal_form.specs.declared.normal.Sym.{Sym}
 use Rattle.normal_form.specs.declared.normal.Sym.TheVariants.{Kind, Rule}
 use Rattle.normal_form.specs.Form.{NormalForm}
-use Rattle.normal_form_spans.specs.Spans.{DerivesSpan, DerivesSpanSeq}
+use Rattle.normal_form.specs.Spans.{DerivesSpan, DerivesSpanSeq}
 use Rattle.chart_parser_ends.specs.declared.choice.Choice.{Choice}
 use Rattle.chart_parser_ends.specs.Positions.{HasAll, HasExactly, IsGrown}
 use Rattle.chart_parser_ends.specs.inner.Working.{DerivesEarlier, DerivesFrom, HasAlternatives, IsChoice, alternative_at, symbol_at}

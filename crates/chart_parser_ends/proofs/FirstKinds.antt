@@ -8,8 +8,8 @@ use Rattle.normal_form.specs.declared.normal.Sym.TheVariants.{Kind, Set, Rule}
 use Rattle.normal_form.specs.Form.{RuleForm, NormalForm}
 use Rattle.normal_form.specs.NormalDerives.{NormalDerives, NormalDerivesSeq, NormalDerivesMany, of_kind, of_set, of_regular, of_absent}
 use Rattle.normal_form.specs.NormalDerives.{of_present, of_star, of_plus, of_done, of_next, of_end, of_more}
-use Rattle.normal_form_spans.specs.Spans.{DerivesSpan, DerivesSpanMany}
-use Rattle.normal_form_spans.proofs.Lent.{between_append, between_one}
+use Rattle.normal_form.specs.Spans.{DerivesSpan, DerivesSpanMany}
+use Rattle.normal_form.proofs.Lent.{between_append, between_one}
 use Rattle.chart_parser_ends.specs.declared.firsts.FirstRow.{FirstRow}
 use Rattle.chart_parser_ends.specs.inner.Firsts.{AreClosed, AreFirsts, CanBeLeftOut, CoversAlternative, HasKind}
 use Rattle.chart_parser_ends.specs.inner.Firsts.{HasWhatBegins, MayBeEmpty, MayBeEmptyBefore, MayBegin}

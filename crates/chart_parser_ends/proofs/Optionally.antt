@@ -4,7 +4,7 @@ use Rattle.std.specs.List.Sorted.{IsStrictlyIncreasing}
 use Rattle.normal_form.specs.declared.normal.Sym.{Sym}
 use Rattle.normal_form.specs.declared.normal.Sym.TheVariants.{Rule}
 use Rattle.normal_form.specs.Form.{RuleForm, NormalForm}
-use Rattle.normal_form_spans.specs.Spans.{DerivesSpan}
+use Rattle.normal_form.specs.Spans.{DerivesSpan}
 use Rattle.chart_parser_ends.specs.Positions.{HasAll, HasExactly, IsGrown}
 use Rattle.chart_parser_ends.proofs.Exactly.{exactly_grown, exactly_one}
 use Rattle.chart_parser_ends.proofs.Spans.{spans}

@@ -10,9 +10,8 @@ use Rattle.normal_form.specs.declared.normal.Sym.{Sym}
 use Rattle.normal_form.specs.declared.normal.Sym.TheVariants.{Rule}
 use Rattle.normal_form.specs.Form.{RuleForm, NormalForm}
 use Rattle.normal_form.specs.NormalOf.{IsNormal}
-use Rattle.normal_form.proofs.Lent as elements
-use Rattle.normal_form_spans.specs.Spans.{DerivesSpan, DerivesSpanMany}
-use Rattle.normal_form_spans.proofs.Lent as moving
+use Rattle.normal_form.proofs.Lent as lent
+use Rattle.normal_form.specs.Spans.{DerivesSpan, DerivesSpanMany}
 use Rattle.chart_parser_ends.specs.declared.repetition.Repetition.{Repetition}
 use Rattle.chart_parser_ends.specs.declared.work.RuleEnds.{RuleEnds}
 use Rattle.chart_parser_ends.specs.Positions.{HasAll, HasExactly, IsGrown}
@@ -212,7 +211,7 @@ module _ (N : NormalForm) (K : List ℕ) where
     plus_in : (r j : ℕ) → IsNormal N → slice_get N.rules r ≡ Some (RuleForm.plus s) → DerivesSpan N K (Rule r) first j → Contains reached j × (first < j)
     plus_in r j normal at d =
         let (m, one, more) = ((spans N K).plus r first j s at).0 d in
-        let moved = moving.elements_move_on elements.elements_are_not_empty N normal K r first m s (inr at) one in
+        let moved = lent.elements_move_on lent.elements_are_not_empty N normal K r first m s (inr at) one in
         (all_reached j (DerivesSpanMany.of_more first m j one more), omega (arith, moved, (many_within more).0))
 
     pub plus_found : (r : ℕ) → IsNormal N → slice_get N.rules r ≡ Some (RuleForm.plus s) → HasExactly (DerivesSpan N K (Rule r) first) (drop 1 reached)

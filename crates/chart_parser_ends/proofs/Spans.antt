@@ -2,13 +2,12 @@
 use Rattle.std.proofs.Common.{ℕ, ◌≤◌, List, length}
 use Rattle.normal_form.specs.declared.normal.Sym.{Sym}
 use Rattle.normal_form.specs.Form.{NormalForm}
-use Rattle.normal_form.proofs.Lent as forms
-use Rattle.normal_form_spans.specs.Spans.{DerivesSpan, DerivesSpanMany}
-use Rattle.normal_form_spans.specs.SpanLaws.{SpansAreDerived, SpansByForm, SpansJoin}
-use Rattle.normal_form_spans.proofs.Lent as lent
+use Rattle.normal_form.proofs.Lent as lent
+use Rattle.normal_form.specs.Spans.{DerivesSpan, DerivesSpanMany}
+use Rattle.normal_form.specs.SpanLaws.{SpansAreDerived, SpansByForm, SpansJoin}
 
 pub spans : (N : NormalForm) (K : List ℕ) → SpansByForm N K
-spans N K = lent.by_form N K (forms.by_form N)
+spans N K = lent.spans_by_form N K (lent.by_form N)
 
 pub joins : (N : NormalForm) (K : List ℕ) → SpansJoin N K
 joins N K = lent.joined N K

@@ -11,7 +11,7 @@ use Rattle.grammar_names.specs.KindLists.{is_in}
 use Rattle.normal_form.specs.declared.normal.Sym.{Sym}
 use Rattle.normal_form.specs.declared.normal.Sym.TheVariants.{Kind, Set, Rule}
 use Rattle.normal_form.specs.Form.{NormalForm}
-use Rattle.normal_form_spans.specs.Spans.{DerivesSpan}
+use Rattle.normal_form.specs.Spans.{DerivesSpan}
 use Rattle.chart_parser_ends.specs.Input.{ChartInput}
 use Rattle.chart_parser_ends.specs.inner.Entries.{Entry, entry}
 use Rattle.chart_parser_ends.specs.inner.Exact.{IsExact, IsTokenOf}

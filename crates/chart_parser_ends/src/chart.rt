@@ -2,7 +2,7 @@
 
 ghost use Rattle.std.specs.Prelude.{◌≡◌, ◌↔◌, ◌<◌, ◌^◌, length, IfOk, IsTrue, OnOk};
 ghost use Rattle.std.specs.List.Sorted.{IsStrictlyIncreasing};
-ghost use Rattle.normal_form_spans.specs.Spans.{DerivesSpan};
+ghost use Rattle.normal_form.specs.Spans.{DerivesSpan};
 ghost use Rattle.chart_parser_ends.specs.Positions.{EndsUpTo, HasAll, IsGrown, IsLastAmong};
 
 use crate::positions::{add_all, has, last_common, up_to};

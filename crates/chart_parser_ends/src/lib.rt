@@ -6,7 +6,7 @@
 //! rule can end, rising. It is filled on demand, with a stack in memory, so that neither the nesting
 //! of an input nor a chain of rules costs stack of the machine.
 //!
-//! Read `DerivesSpan` of `normal_form_spans` first, and then `HasExactly` in `specs/Positions.antt`.
+//! Read `DerivesSpan` of `normal_form` first, and then `HasExactly` in `specs/Positions.antt`.
 //! Answers are exact, of ambiguous grammars too; an error always means that memory ran out, or that there
 //! would be more than 4,294,967,295 ends or entries.
 #![tactic(auto)]

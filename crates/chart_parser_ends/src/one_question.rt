@@ -2,7 +2,7 @@
 
 ghost use Rattle.std.specs.Prelude.{◌↔◌, ◌<◌, ◌^◌, length, IfOk, IsTrue};
 ghost use Rattle.normal_form.specs.NormalDerives.{NormalDerives};
-ghost use Rattle.normal_form_spans.specs.Spans.{DerivesSpan};
+ghost use Rattle.normal_form.specs.Spans.{DerivesSpan};
 ghost use Rattle.chart_parser_ends.specs.Positions.{HasExactly};
 
 use crate::chart::Chart;

@@ -1,7 +1,7 @@
 //! The table of a chart.
 
 ghost use Rattle.std.specs.Prelude.{◌≡◌, ◌≢◌, ◌++◌, ◌∷◌, [], ℕ, ◌<◌, ◌≤◌, ◌^◌, length, IfErr, IfOk, IfSome, OnErr, OnOk};
-ghost use Rattle.normal_form_spans.specs.Spans.{DerivesSpan};
+ghost use Rattle.normal_form.specs.Spans.{DerivesSpan};
 ghost use Rattle.chart_parser_ends.specs.Positions.{HasExactly};
 ghost use Rattle.chart_parser_ends.specs.inner.Entries.{HasEntry, entry};
 ghost use Rattle.chart_parser_ends.specs.inner.Working.{HasRuleEnds};

@@ -10,7 +10,7 @@ use Rattle.normal_form.specs.declared.normal.Sym.{Sym}
 use Rattle.normal_form.specs.declared.normal.Sym.TheVariants.{Rule}
 use Rattle.normal_form.specs.Form.{RuleForm, NormalForm}
 use Rattle.normal_form.specs.View.{alts_form}
-use Rattle.normal_form_spans.specs.Spans.{DerivesSpan, DerivesSpanSeq, DerivesSpanMany}
+use Rattle.normal_form.specs.Spans.{DerivesSpan, DerivesSpanSeq, DerivesSpanMany}
 use Rattle.chart_parser_ends.specs.Positions.{EndsUpTo, HasAll, HasExactly, IsGrown}
 use Rattle.chart_parser_ends.specs.inner.Working.{DerivesFrom}
 use Rattle.chart_parser_ends.proofs.Lent.{contains_none, contains_one, exactly_none, exactly_one, exactly_same, next_position, joins, lists, spans}

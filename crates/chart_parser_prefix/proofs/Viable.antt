@@ -12,8 +12,8 @@ use Rattle.normal_form.specs.NormalDerives.{NormalDerives, NormalDerivesSeq, Nor
 use Rattle.normal_form.specs.NormalDerives.{of_present, of_star, of_plus, of_done, of_next, of_end, of_more}
 use Rattle.normal_form.specs.FormLaws.{NormalDerivesByForm}
 use Rattle.normal_form.proofs.Lent as forms
-use Rattle.normal_form_spans.specs.Spans.{DerivesSpan, DerivesSpanSeq, DerivesSpanMany}
-use Rattle.normal_form_spans.proofs.Lent.{between_append, cut, none_between}
+use Rattle.normal_form.specs.Spans.{DerivesSpan, DerivesSpanSeq, DerivesSpanMany}
+use Rattle.normal_form.proofs.Lent.{between_append, cut, none_between}
 use Rattle.chart_parser_ends.specs.inner.Exact.{IsTokenOf}
 use Rattle.chart_parser_ends.proofs.Lent.{joins, lists, many_within}
 use Rattle.chart_parser_prefix.specs.inner.Expected.{IsExpected, Predicts, of_start, of_symbol, of_alternative, of_optional}

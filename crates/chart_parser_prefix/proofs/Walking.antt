@@ -11,7 +11,7 @@ use Rattle.normal_form.specs.declared.normal.Sym.{Sym}
 use Rattle.normal_form.specs.declared.normal.Sym.TheVariants.{Kind, Set, Rule}
 use Rattle.normal_form.specs.Form.{NormalForm}
 use Rattle.normal_form.specs.NormalDerives.{NormalDerives}
-use Rattle.normal_form_spans.specs.Spans.{DerivesSpan}
+use Rattle.normal_form.specs.Spans.{DerivesSpan}
 use Rattle.chart_parser_ends.specs.inner.Exact.{IsTokenOf}
 use Rattle.chart_parser_ends.specs.Positions.{HasExactly}
 use Rattle.chart_parser_ends.proofs.Lent.{exactly_same, spans}

@@ -5,7 +5,7 @@ ghost use Rattle.std.specs.List.{Contains};
 ghost use Rattle.normal_form.specs.Form.{RuleForm};
 ghost use Rattle.normal_form.specs.View.{alts_form};
 ghost use Rattle.normal_form.specs.declared.normal.Sym;
-ghost use Rattle.normal_form_spans.specs.Spans.{DerivesSpan};
+ghost use Rattle.normal_form.specs.Spans.{DerivesSpan};
 ghost use Rattle.chart_parser_ends.specs.Positions.{HasExactly};
 ghost use Rattle.chart_parser_ends.specs.inner.Working.{DerivesFrom};
 ghost use Rattle.chart_parser_prefix.specs.inner.Expected.{IsElement, IsInAlternative, IsInAlternatives, IsInProductive, Predicts, is_token};

@@ -13,7 +13,7 @@ use Rattle.run_problem.specs.declared.problem.ReadProblem.{ReadProblem}
 use Rattle.run_problem.specs.declared.problem.ReadProblem.TheVariants as read
 use Rattle.run_problem.specs.Problem.{start_text}
 use Rattle.run_problem.specs.Read.{IsFoundIn, IsReadAs, numbers_read, start_read}
-use Rattle.token_laws.specs.Laws.{TokensAreInOrder}
+use Rattle.token_print.specs.LexingLaws.{TokensAreInOrder}
 use Rattle.command_ends.specs.declared.status.Refusal.{Refusal}
 use Rattle.command_ends.specs.declared.status.Refusal.TheVariants.{Memory, KeepMissing, BeyondLines}
 use Rattle.command_problem.specs.Problem.{ProblemRead}

@@ -37,7 +37,7 @@ use script_gate_trait::Gate;
 use std::alloc::Global;
 use std::sync::Wait;
 use std::thread::Threads;
-use token_laws::tokens_are_in_order;
+use token_print::tokens_are_in_order;
 use worker_pool::Worker;
 
 /// Opens the journal and reduces what was read, by these workers, whose gates are open.

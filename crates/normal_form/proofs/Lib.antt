@@ -22,4 +22,9 @@ mod Elements
 mod Corners
 mod NoLeftRecursion
 mod ShortChains
+mod Cuts
+mod Derived
+mod Joined
+mod SpansByForm
+mod SpanElements
 pub mod Lent

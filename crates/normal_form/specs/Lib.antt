@@ -8,4 +8,6 @@ pub mod View
 pub mod Laws
 pub mod Symbols
 pub mod FormLaws
+pub mod Spans
+pub mod SpanLaws
 pub mod inner

@@ -10,11 +10,17 @@
 //! numbered (`Numbering.antt`, `NormalOf.antt`), and what holds of every normal form (`Symbols.antt`,
 //! `FormLaws.antt`), for trees and a parser. In every normal form no rule is on a cycle of left corners
 //! ([`no_left_recursion`]).
+//!
+//! What symbols derive between two positions of a list of token kinds, of which a chart, a parse tree
+//! and a choice between two readings speak, is `DerivesSpan` in `Spans.antt`; its laws' statements are
+//! in `SpanLaws.antt`. Each law is a function that does nothing: a caller calls it so that its proof
+//! has the law, as [`spans_by_form`].
 #![tactic(auto)]
 
 mod form_laws;
 mod laws;
 mod normal;
+mod span_laws;
 
 pub use faults::Memory;
 pub use form_laws::{
@@ -24,3 +30,4 @@ pub use form_laws::{
 };
 pub use laws::equal_languages;
 pub use normal::{Normal, NormalRule, Sym};
+pub use span_laws::{elements_move_on, spans_are_derived, spans_by_form, spans_join};

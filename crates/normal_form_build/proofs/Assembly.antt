@@ -11,7 +11,7 @@ use Rattle.grammar_tree.specs.Size.{grammar_size}
 use Rattle.grammar_tree.specs.Checked.{IsChecked}
 use Rattle.normal_form_build.specs.declared.parser_rule.ParserRuleRef.{ParserRuleRef}
 use Rattle.normal_form.specs.NormalOf.{names_from, normal_of, numbering, own_rule, sets_of}
-use Rattle.normal_form_terms.specs.Numbers.{AreNumbersOf}
+use Rattle.normal_form_build.specs.Numbers.{AreNumbersOf}
 use Rattle.normal_form_build.specs.inner.OwnRules.{own_rules_from}
 use Rattle.normal_form_sets.specs.Sets.{SetsOfKinds}
 use Rattle.normal_form.specs.View.{normal_form, rule_form}

@@ -10,7 +10,7 @@ use Rattle.normal_form.specs.Numbering.{Numbering, group, groups}
 use Rattle.normal_form_build.specs.declared.parser_rule.ParserRuleRef.{ParserRuleRef}
 use Rattle.normal_form_build.specs.inner.OwnRules.{own_rules_from}
 use Rattle.normal_form_build.specs.inner.ParserRules.{bodies_of, parser_rule}
-use Rattle.normal_form_terms.proofs.Lent.{all_made, more_made}
+use Rattle.normal_form_build.proofs.RuleSteps.{all_made, more_made}
 
 -- the parser rules from an index on, of which one is taken
 pub body_taken : (G : WrittenGrammar) (rules : List ParserRuleRef) (i : ℕ) (r : ParserRuleRef) → i < length rules → r ≡ slice_index_or rules i r

@@ -1,2 +1,4 @@
+pub mod Terms
+pub mod Numbers
 pub mod ParserRules
 pub mod OwnRules

@@ -11,6 +11,7 @@ ghost use Rattle.normal_form.specs.View.{rule_form};
 ghost use Rattle.normal_form_build.specs.inner.ParserRules.{HaveNumbers, bodies_of};
 
 use crate::groups::push_group;
+use crate::numbers::Numbers;
 use crate::own_rules::own_rules;
 use crate::parser_rule::{ParserRuleRef, parser_rules};
 use crate::rule_names::rule_names;
@@ -19,7 +20,6 @@ use faults::Memory;
 use grammar_names::Names;
 use grammar_tree::{Checked, Rule, counts_fit, places_have_numbers};
 use normal_form::{Normal, NormalRule, equal_languages};
-use normal_form_terms::Numbers;
 use std::alloc::Global;
 
 /// How many of the rules are parser rules.

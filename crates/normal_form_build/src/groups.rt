@@ -9,11 +9,12 @@ ghost use Rattle.normal_form.specs.Numbering.{alts_rules, with_base, with_rest, 
 ghost use Rattle.normal_form.specs.NormalOf.{numbering};
 ghost use Rattle.normal_form.specs.View.{alts_form, rule_form};
 
+use crate::numbers::Numbers;
+use crate::rules::{push_block, push_seq, put_regular};
 use faults::Memory;
 use grammar_check_recursion::{has_rest, is_recursive};
 use grammar_tree::{ParserAlts, ParserTerms};
 use normal_form::{NormalRule, Sym};
-use normal_form_terms::{Numbers, push_block, push_seq, put_regular};
 use std::alloc::Global;
 
 /// The symbols of a rule's bases and of its rests.

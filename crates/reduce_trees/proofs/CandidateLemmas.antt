@@ -3,8 +3,8 @@ use Rattle.std.proofs.Common.{ℕ, suc, ◌≡◌, ◌+◌, ◌<◌, ◌≤◌, 
 use Rattle.std.specs.Prelude.{IsTrue}
 use Rattle.std.specs.List.Sorted.{IsStrictlyIncreasing}
 use Rattle.std.proofs.lemmas.Bool.Decides.{same_from_decides}
-use Rattle.token_laws.specs.Readings.{SpelledAreFound, spells}
-use Rattle.token_laws.specs.Spelling.{kinds_and_spellings}
+use Rattle.token_print.specs.Readings.{SpelledAreFound, spells}
+use Rattle.token_print.specs.Spelling.{kinds_and_spellings}
 use Rattle.token_print.specs.declared.style.Style.{Style}
 use Rattle.token_print.specs.Kept.{KeepsTokens}
 use Rattle.keep_guard.specs.Relation.{Rises, RisesFrom}

@@ -12,7 +12,7 @@ use Rattle.normal_form.specs.Form.{NormalForm}
 use Rattle.normal_form.specs.NormalOf.{normal_of}
 use Rattle.syntax_tree.specs.Trees.{kinds_of}
 use Rattle.syntax_tree.specs.Nodes.{SyntaxTree, whole}
-use Rattle.token_laws.specs.Readings.{TokensAreFound}
+use Rattle.token_print.specs.Readings.{TokensAreFound}
 use Rattle.reduce_step.specs.Limits.{text_limit}
 use Rattle.reduce_trees_mode.specs.inner.FormedProp.{well_formed_prop}
 use Rattle.reduce_trees_mode.specs.InputOf.{input_of}

@@ -11,8 +11,7 @@ use faults::Memory;
 use keep_guard::Relation;
 use lexer::LexReader;
 use std::alloc::Global;
-use token_laws::spelled_are_found;
-use token_print::{Style, keeps_printed, print, printed_with_skips};
+use token_print::{Style, keeps_printed, print, printed_with_skips, spelled_are_found};
 
 /// The text of a tree, how many tokens it has, and whether it may be asked. The text is printed once. Only
 /// a reducer's copy copies it; what reads it here is passed a slice.

@@ -23,7 +23,7 @@ use keep_guard::{Guard, Relation};
 use lexer::{Lexer, Tokens};
 use reduce_trees_mode::parts_join;
 use syntax_tree::Tree;
-use token_laws::tokens_are_found;
+use token_print::tokens_are_found;
 
 /// What never changes in a reduction of trees: the start's text with its pieces and the lexer of its
 /// grammar, its tokens and their tree, which symbols fit which slots, which candidates are admitted, and

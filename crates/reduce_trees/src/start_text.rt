@@ -10,7 +10,7 @@ ghost use Rattle.reduce_step.specs.Limits.{text_limit};
 use faults::Memory;
 use lexer::{LexFault, Lexer, Pieces};
 use std::marker::Model;
-use token_laws::tokens_have_no_stop;
+use token_print::tokens_have_no_stop;
 
 /// A text with its pieces, and the lexer that cut it into them. Contracts see the grammar and the text.
 #[derive(Drop)]

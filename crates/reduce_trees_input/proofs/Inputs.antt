@@ -23,7 +23,7 @@ use Rattle.syntax_tree.specs.Laws.{PreferredTreesAreOne, PreferredTreesAreValid,
 use Rattle.syntax_tree.specs.Nodes.{whole}
 use Rattle.syntax_tree.specs.Preferred.{Preferred}
 use Rattle.syntax_tree.specs.Trees.{PlainTree, kinds_of, renumbered}
-use Rattle.token_laws.specs.Laws.{TokensAreUnique}
+use Rattle.token_print.specs.LexingLaws.{TokensAreUnique}
 use Rattle.reduce_trees_mode.specs.Candidates.{InLanguage}
 use Rattle.reduce_trees_mode.specs.Input.{TreeInput}
 use Rattle.reduce_trees_mode.specs.Laws.{WellFormedOnce}

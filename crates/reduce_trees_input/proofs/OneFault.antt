@@ -7,7 +7,7 @@ use Rattle.grammar_tree.specs.Checked.{StartDerives}
 use Rattle.grammar_tree.specs.Lexes.{PlacedToken}
 use Rattle.grammar_tree.specs.Laws.{StopsOnce}
 use Rattle.lexer.specs.Tokens.{HasTokens}
-use Rattle.token_laws.specs.Laws.{TokensAreUnique, TokensHaveNoStop}
+use Rattle.token_print.specs.LexingLaws.{TokensAreUnique, TokensHaveNoStop}
 use Rattle.reduce_trees_mode.specs.Candidates.{InLanguage}
 use Rattle.reduce_trees_input.specs.Parsed.{kinds_in}
 use Rattle.reduce_trees_input.specs.Faults.{IsInputFault}

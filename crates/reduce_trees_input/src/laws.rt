@@ -7,7 +7,7 @@ use grammar_tree::stops_once;
 use normal_form::equal_languages;
 use reduce_trees_mode::well_formed_once;
 use syntax_tree::{preferred_trees_are_one, valid_trees_are_derived};
-use token_laws::{tokens_are_unique, tokens_have_no_stop};
+use token_print::{tokens_are_unique, tokens_have_no_stop};
 
 /// A text has one input at most by a grammar, for what is admitted and whether the squeezed text is
 /// tried.

@@ -26,7 +26,7 @@ use normal_form::{Sym, equal_languages};
 use normal_form_build::normalise;
 use std::alloc::Global;
 use syntax_tree::{Tree, preferred_trees_are_valid, valid_trees_are_derived};
-use token_laws::tokens_are_in_order;
+use token_print::tokens_are_in_order;
 
 /// What is found in a text in a grammar's language: the text itself, its tokens, the lexer of the
 /// grammar, and the preferred tree of all tokens, for the start rule.

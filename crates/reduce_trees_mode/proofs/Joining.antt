@@ -1,5 +1,5 @@
 -- The parts of an input.
-use Rattle.token_laws.specs.Readings.{TokensAreFound}
+use Rattle.token_print.specs.Readings.{TokensAreFound}
 use Rattle.std.specs.Str.{chars}
 use Rattle.reduce_trees_mode.specs.InputParts.{PartsJoin}
 

@@ -12,8 +12,8 @@ use Rattle.normal_form.specs.Form.{NormalForm}
 use Rattle.normal_form.specs.Laws.{EqualLanguages}
 use Rattle.normal_form.specs.NormalDerives.{NormalDerives}
 use Rattle.normal_form.specs.NormalOf.{normal_of}
-use Rattle.token_laws.specs.Readings.{SpelledAreFound, spells}
-use Rattle.token_laws.specs.Spelling.{kinds_and_spellings}
+use Rattle.token_print.specs.Readings.{SpelledAreFound, spells}
+use Rattle.token_print.specs.Spelling.{kinds_and_spellings}
 use Rattle.syntax_tree.specs.Trees.{kinds_of, leaves, weight}
 use Rattle.syntax_tree.specs.Laws.{ValidTreesAreDerived}
 use Rattle.syntax_tree.specs.LeftLaws.{LeavesKeepKinds, LeftIsPart}

@@ -3,7 +3,7 @@ use Rattle.std.specs.Prelude.{◌≡◌, Some, map}
 use Rattle.std.specs.Str.{chars, IsUtf8}
 use Rattle.grammar_tree.specs.Checked.{IsChecked}
 use Rattle.grammar_tree.specs.Lexes.{PlacedToken}
-use Rattle.token_laws.specs.Reading.{tokens_in}
+use Rattle.token_print.specs.Reading.{tokens_in}
 use Rattle.normal_form.specs.declared.normal.Sym.TheVariants.{Rule}
 use Rattle.normal_form.specs.NormalOf.{normal_of}
 use Rattle.syntax_tree.specs.Trees.{kinds_of}

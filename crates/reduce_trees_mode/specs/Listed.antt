@@ -1,7 +1,7 @@
 -- The texts of states, and which states may be asked.
 use Rattle.std.specs.Prelude.{ℕ, ◌<◌, ◌&&◌, ⊤, Bool, List, IsTrue, length}
-use Rattle.token_laws.specs.Readings.{spells}
-use Rattle.token_laws.specs.Spelling.{kinds_and_spellings}
+use Rattle.token_print.specs.Readings.{spells}
+use Rattle.token_print.specs.Spelling.{kinds_and_spellings}
 use Rattle.syntax_tree.specs.Trees.{leaves}
 use Rattle.syntax_tree.specs.Valid.{IsTreeFor}
 use Rattle.syntax_tree.specs.Left.{IsRemainderOf}

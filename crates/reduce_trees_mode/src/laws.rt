@@ -7,10 +7,9 @@ ghost use Rattle.reduce_trees_mode.specs.Laws.{RoundsKeepStyle, StylesStay, Text
 
 use normal_form::equal_languages;
 use syntax_tree::{leaves_keep_kinds, left_is_part, left_is_reflexive, valid_trees_are_derived};
-use token_laws::{spelled_are_found, tokens_are_found};
 use token_print::{
     all_kept_is_start, kept_kinds, no_longer_than_all, no_longer_than_start, printed_with_skips,
-    start_keeps_tokens,
+    spelled_are_found, start_keeps_tokens, tokens_are_found,
 };
 
 /// There is at most one proof that a grammar is well-formed, so that what is defined by such a proof

@@ -49,7 +49,7 @@ use spell_shrink::{
 use std::alloc::Global;
 use std::sync::Wait;
 use std::thread::Threads;
-use token_laws::tokens_are_in_order;
+use token_print::tokens_are_in_order;
 use worker_pool::Worker;
 
 /// The text that the lines of a start reduce to.

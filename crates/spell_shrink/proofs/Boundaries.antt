@@ -1,7 +1,6 @@
 -- Where a spelling begins and ends in the text of a respelling the text may be cut.
 use Rattle.std.proofs.Common.{◌≡◌, ◌∙◌, ◌+◌, ◌&&◌, ◌<◌, ◌≤◌, ℕ, zero, suc, Bool, true, false, cond}
-use Rattle.std.proofs.Common.{List, [], ◌∷◌, ◌++◌, All, Option, Some, None, length, get_or}
-use Rattle.std.proofs.Common.{refl, sym, ap, subst, arith, append_assoc, length-append}
+use Rattle.std.proofs.Common.{List, [], ◌∷◌, ◌++◌, All, Option, Some, None, length, get_or, refl, sym, ap, subst, arith, append_assoc, length-append}
 use Rattle.std.specs.Prelude.{nat_eq}
 use Rattle.std.specs.List.{list_any}
 use Rattle.std.specs.Str.{chars, IsAscii, IsCharBoundary, IsUtf8}
@@ -10,8 +9,8 @@ use Rattle.std.proofs.lemmas.Str.{IsCharBoundary-at_seam, IsUtf8-append, IsUtf8-
 use Rattle.grammar_tree.specs.Written.{WrittenGrammar}
 use Rattle.grammar_tree.specs.Lexes.{PlacedToken}
 use Rattle.lexer.specs.Tokens.{HasTokens}
-use Rattle.token_laws.specs.Laws.{GapsAreSlices}
-use Rattle.token_laws.specs.Spelling.{gap_text}
+use Rattle.token_print.specs.LexingLaws.{GapsAreSlices}
+use Rattle.token_print.specs.Spelling.{gap_text}
 use Rattle.token_print.specs.declared.style.Skips.{Skips}
 use Rattle.token_print.specs.declared.style.Style.{Style}
 use Rattle.token_print.specs.Printed.{after, before, final_newline, separator}

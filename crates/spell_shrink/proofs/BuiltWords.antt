@@ -6,7 +6,7 @@ use Rattle.std.proofs.lemmas.List.Elements.{All-head, All-tail}
 use Rattle.grammar_tree.specs.Lexes.{PlacedToken}
 use Rattle.lexer.specs.declared.token.Token.{Token}
 use Rattle.lexer.specs.Tokens.{token_of}
-use Rattle.token_laws.specs.Laws.{IsSlice}
+use Rattle.token_print.specs.LexingLaws.{IsSlice}
 use Rattle.spell_shrink.specs.declared.words.Word.{Word}
 use Rattle.spell_shrink.specs.KindWords.{KindWord, kind_word, word_bytes_of}
 use Rattle.spell_shrink.proofs.SortedWords.{spelled_kind}

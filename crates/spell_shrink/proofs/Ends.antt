@@ -13,8 +13,8 @@ use Rattle.grammar_tree.specs.Lexes.{Piece, PlacedToken}
 use Rattle.syntax_tree.specs.Laws.{ValidTreesAreDerived}
 use Rattle.syntax_tree.specs.LeftLaws.{LeavesKeepKinds, LeftIsPart}
 use Rattle.syntax_tree.specs.Trees.{PlainTree, leaves}
-use Rattle.token_laws.specs.Readings.{SpelledAreFound, spells}
-use Rattle.token_laws.specs.Spells.{SpelledKinds}
+use Rattle.token_print.specs.Readings.{SpelledAreFound, spells}
+use Rattle.token_print.specs.Spells.{SpelledKinds}
 use Rattle.token_print.specs.declared.style.Style.{Style}
 use Rattle.reduce_rounds.specs.Laws.{EndsWell}
 use Rattle.reduce_rounds.specs.Trials.{IsTriedAtNo, Trials}

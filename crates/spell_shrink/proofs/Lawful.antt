@@ -6,7 +6,7 @@ use Rattle.normal_form.specs.declared.normal.Sym.{Sym}
 use Rattle.normal_form.specs.Form.{NormalForm}
 use Rattle.syntax_tree.specs.LeftLaws.{LeftIsPart}
 use Rattle.syntax_tree.specs.Trees.{PlainTree, leaves, weight}
-use Rattle.token_laws.specs.Readings.{spells}
+use Rattle.token_print.specs.Readings.{spells}
 use Rattle.token_print.specs.declared.style.Style.{Style}
 use Rattle.token_print.specs.Kept.{AreKept}
 use Rattle.reduce_rounds.specs.Mode.{BeginsPhase, IsLawful}

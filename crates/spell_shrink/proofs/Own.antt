@@ -11,7 +11,7 @@ use Rattle.normal_form.specs.Form.{NormalForm}
 use Rattle.grammar_tree.specs.Lexes.{Piece, PlacedToken}
 use Rattle.syntax_tree.specs.Trees.{PlainTree, leaves}
 use Rattle.syntax_tree_cut.specs.WeightLaws.{WeightsCountLeaves}
-use Rattle.token_laws.specs.Spelling.{kind_and_spelling, kinds_and_spellings, spelling, spelling_at}
+use Rattle.token_print.specs.Spelling.{kind_and_spelling, kinds_and_spellings, spelling, spelling_at}
 use Rattle.token_print.specs.declared.style.Skips.{Skips}
 use Rattle.token_print.specs.declared.style.Style.{Style}
 use Rattle.token_print.specs.Printed.{before, printed, printed_after}

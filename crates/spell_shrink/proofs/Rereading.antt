@@ -18,8 +18,8 @@ use Rattle.grammar_tree.proofs.Lent.{one_way}
 use Rattle.lexer.specs.declared.piece.Piece.{Piece}
 use Rattle.lexer.specs.Pieces.{AreJoined, HasPieces, IsPieceOf}
 use Rattle.lexer.specs.Tokens.{token_of}
-use Rattle.token_laws.specs.Laws.{TokensArePieces}
-use Rattle.token_laws.specs.Spells.{SpellsTokens}
+use Rattle.token_print.specs.LexingLaws.{TokensArePieces}
+use Rattle.token_print.specs.Spells.{SpellsTokens}
 use Rattle.token_print.specs.inner.Joins.{SpellsFrom}
 use Rattle.token_print.proofs.Lent.{AreWithin, carried_next, plain, spells_at_end, spells_from, spells_none, spells_nothing, spells_on, start_lexes, text_lexes}
 use Rattle.spell_shrink.specs.declared.change.Change.{Change}

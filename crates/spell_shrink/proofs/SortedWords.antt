@@ -17,7 +17,7 @@ use Rattle.std.proofs.lemmas.List.Filters.{All-dedup}
 use Rattle.std.proofs.lemmas.List.Kept.{Any-dedup, Contains-from_dedup, IsStrictlySortedBy-dedup}
 use Rattle.std.proofs.lemmas.List.Sorted.{All-permutation, Contains-permutation, IsPermutation-sym}
 use Rattle.grammar_tree.specs.Lexes.{PlacedToken}
-use Rattle.token_laws.specs.Spelling.{spelling}
+use Rattle.token_print.specs.Spelling.{spelling}
 use Rattle.spell_shrink.specs.declared.words.Word.{Word}
 use Rattle.spell_shrink.specs.KindWords.{AreSorted, IsSized, KindWord, bytes_of_kind, kind_word, kind_word_order, word_bytes_of}
 use Rattle.spell_shrink.specs.Words.{word_order, words_of}

@@ -11,7 +11,7 @@ use Rattle.std.proofs.lemmas.Bool.{eq-eqb, eqb-true, lt-ltb, ltb-true}
 use Rattle.std.proofs.lemmas.Map.Text.{is_eq-slice_cmp}
 use Rattle.std.proofs.lemmas.Slice.Eq.{bytes_eq-Decides}
 use Rattle.grammar_tree.specs.Lexes.{PlacedToken}
-use Rattle.token_laws.specs.Spelling.{spelling}
+use Rattle.token_print.specs.Spelling.{spelling}
 use Rattle.spell_shrink.specs.Words.{placed, shorter_than, with_word, word_order, words_of}
 
 -- the word is one of these

@@ -8,8 +8,8 @@ use Rattle.std.proofs.lemmas.Bool.{and_parts}
 use Rattle.grammar_tree.specs.Lexes.{PlacedToken}
 use Rattle.grammar_tree.specs.Written.{CheckedGrammar}
 use Rattle.lexer.specs.Tokens.{HasTokens}
-use Rattle.token_laws.specs.Readings.{SpelledAreFound}
-use Rattle.token_laws.specs.Spells.{SpellsTokens}
+use Rattle.token_print.specs.Readings.{SpelledAreFound}
+use Rattle.token_print.specs.Spells.{SpellsTokens}
 use Rattle.token_print.specs.declared.style.Skips.{Skips}
 use Rattle.token_print.specs.declared.style.Style.{Style}
 use Rattle.token_print.specs.Kept.{AreKept}

@@ -1,13 +1,12 @@
 -- A token that takes a shorter spelling.
 use Rattle.std.proofs.Common.{◌≡◌, ◌≢◌, ◌∙◌, ◌-◌, ◌<◌, ◌≤◌, ⊎_elim, ℕ, zero, suc, Bool, true, false}
-use Rattle.std.proofs.Common.{List, [], ◌∷◌, All, None, length, set, get_or, string_bytes}
-use Rattle.std.proofs.Common.{refl, sym, ap, subst, arith, ext_get_or}
+use Rattle.std.proofs.Common.{List, [], ◌∷◌, All, None, length, set, get_or, string_bytes, refl, sym, ap, subst, arith, ext_get_or}
 use Rattle.std.specs.Str.{IsUtf8}
 use Rattle.std.proofs.lemmas.Bool.{cases_order}
 use denote.Ref.{Bor}
 use Rattle.grammar_tree.specs.Written.{WrittenGrammar}
 use Rattle.grammar_tree.specs.Lexes.{PlacedToken}
-use Rattle.token_laws.specs.Spells.{SpellsTokens}
+use Rattle.token_print.specs.Spells.{SpellsTokens}
 use Rattle.token_print.specs.declared.style.Skips.{Skips}
 use Rattle.token_print.specs.declared.style.Style.{Style}
 use Rattle.token_print.specs.Kept.{AreKept}

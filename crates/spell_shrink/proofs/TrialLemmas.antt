@@ -12,9 +12,9 @@ use Rattle.grammar_tree.specs.Written.{WrittenGrammar}
 use Rattle.grammar_tree.specs.Faults.{IsWellFormed}
 use Rattle.grammar_tree.specs.Lexes.{Piece, PlacedToken}
 use Rattle.lexer.specs.Tokens.{token_of}
-use Rattle.token_laws.specs.Laws.{GapsAreSlices}
-use Rattle.token_laws.specs.Readings.{SpelledAreFound, spells}
-use Rattle.token_laws.specs.Spells.{SpellsTokens}
+use Rattle.token_print.specs.LexingLaws.{GapsAreSlices}
+use Rattle.token_print.specs.Readings.{SpelledAreFound, spells}
+use Rattle.token_print.specs.Spells.{SpellsTokens}
 use Rattle.token_print.specs.declared.style.Skips.{Skips}
 use Rattle.token_print.specs.declared.style.Style.{Style}
 use Rattle.reduce_step.specs.Limits.{text_limit}

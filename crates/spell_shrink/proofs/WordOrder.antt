@@ -9,7 +9,7 @@ use Rattle.std.specs.declared.cmp.Ordering.{Ordering}
 use Rattle.std.specs.declared.cmp.Ordering.TheVariants.{Less, Equal, Greater}
 use Rattle.std.proofs.lemmas.Cmp.{nat_cmp_total, nat_list_cmp_total, on_total, then_total}
 use Rattle.grammar_tree.specs.Lexes.{PlacedToken}
-use Rattle.token_laws.specs.Spelling.{spelling}
+use Rattle.token_print.specs.Spelling.{spelling}
 use Rattle.spell_shrink.specs.Words.{placed, with_word, word_order, words_of}
 use Rattle.spell_shrink.proofs.SpelledWords.{Has}
 

@@ -3,7 +3,7 @@ use Rattle.std.specs.Prelude.{◌≡◌, ◌<◌, ℕ, zero, suc, List, [], ◌�
 use Rattle.std.specs.List.{All, Contains}
 use Rattle.std.specs.Option.{option_map_or}
 use Rattle.grammar_tree.specs.Lexes.{PlacedToken}
-use Rattle.token_laws.specs.Spelling.{spelling, spelling_at}
+use Rattle.token_print.specs.Spelling.{spelling, spelling_at}
 use Rattle.token_print.specs.Kept.{AreKept}
 
 -- a token of the start, by its number, and the bytes of a spelling

@@ -4,7 +4,7 @@ use Rattle.std.specs.List.{All}
 use Rattle.normal_form.specs.declared.normal.Sym.{Sym}
 use Rattle.normal_form.specs.Form.{NormalForm}
 use Rattle.syntax_tree.specs.Trees.{PlainTree, leaves, weight}
-use Rattle.token_laws.specs.Spelling.{spelling_at}
+use Rattle.token_print.specs.Spelling.{spelling_at}
 use Rattle.token_print.specs.declared.style.Style.{Style}
 use Rattle.reduce_rounds.specs.Trials.{Trials, Done, Try}
 use Rattle.reduce_rounds.specs.Mode.{RoundMode}

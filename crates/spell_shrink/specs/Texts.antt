@@ -2,8 +2,8 @@
 use Rattle.std.specs.Prelude.{◌≡◌, ◌&&◌, ℕ, Bool, List, [], ◌∷◌, ◌++◌, Option, Some, None, IsTrue, map}
 use Rattle.std.specs.Str.{chars}
 use Rattle.grammar_tree.specs.Lexes.{Piece, PlacedToken}
-use Rattle.token_laws.specs.Readings.{spells}
-use Rattle.token_laws.specs.Spells.{SpellsTokens}
+use Rattle.token_print.specs.Readings.{spells}
+use Rattle.token_print.specs.Spells.{SpellsTokens}
 use Rattle.token_print.specs.declared.style.Skips.{Skips}
 use Rattle.token_print.specs.declared.style.Style.{Style}
 use Rattle.token_print.specs.Printed.{after, before}

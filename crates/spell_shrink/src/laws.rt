@@ -18,7 +18,7 @@ use reduce_trees_mode::{opening_is_one_test, texts_are_no_longer};
 use reduce_walk::TreeWalk;
 use syntax_tree::{leaves_keep_kinds, left_is_part, valid_trees_are_derived};
 use syntax_tree_cut::weights_count_leaves;
-use token_laws::{spelled_are_found, spelled_kinds};
+use token_print::{spelled_are_found, spelled_kinds};
 
 /// A round over respellings whose answers are all no has tried each shorter neighbour.
 pub fn rounds_try_neighbours()

@@ -3,7 +3,7 @@
 ghost use Rattle.std.specs.Prelude.{◌≡◌, ◌<◌, ◌^◌, true, false, IfOk, Some, All, length, map, string_bytes};
 ghost use Rattle.std.specs.Str.{IsUtf8};
 ghost use Rattle.lexer.specs.Tokens.{token_of};
-ghost use Rattle.token_laws.specs.Laws.{AreInOrder};
+ghost use Rattle.token_print.specs.LexingLaws.{AreInOrder};
 ghost use Rattle.token_print.specs.Kept.{AreKept};
 ghost use Rattle.token_print.specs.Printed.{before};
 ghost use Rattle.spell_shrink.specs.Respelling.{own_spellings};

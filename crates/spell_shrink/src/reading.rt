@@ -1,11 +1,10 @@
 //! Whether a changed text is cut into the tokens of a respelling.
 
-ghost use Rattle.std.specs.Prelude.{◌≡◌, ◌≢◌, ◌↔◌, ◌≤◌, ◌<◌, ◌+◌, ◌-◌, ◌^◌, ℕ, suc, true, false, IfOk, IfSome, IsTrue, MatchOption};
-ghost use Rattle.std.specs.Prelude.{Some, length, slice_get};
+ghost use Rattle.std.specs.Prelude.{◌≡◌, ◌≢◌, ◌↔◌, ◌≤◌, ◌<◌, ◌+◌, ◌-◌, ◌^◌, ℕ, suc, true, false, IfOk, IfSome, IsTrue, MatchOption, Some, length, slice_get};
 ghost use Rattle.std.specs.Str.{chars, IsCharBoundary, IsUtf8};
 ghost use Rattle.grammar_tree.specs.Written.{WrittenGrammar};
-ghost use Rattle.token_laws.specs.Laws.{IsSlice};
-ghost use Rattle.token_laws.specs.Spells.{SpellsTokens};
+ghost use Rattle.token_print.specs.LexingLaws.{IsSlice};
+ghost use Rattle.token_print.specs.Spells.{SpellsTokens};
 ghost use Rattle.spell_shrink.specs.Respelling.{word_at};
 ghost use Rattle.spell_shrink.specs.inner.Changes.{HasMarkAt};
 ghost use Rattle.spell_shrink.specs.inner.Rereads.{AreExpected, IsOffsetBefore, IsOtherPiece, IsPassed, IsReadTo, IsReread, IsStopped};
@@ -15,7 +14,7 @@ use crate::change::Change;
 use crate::cut_text::{CutText, Progress};
 use faults::Memory;
 use lexer::{Piece, PieceReader, Token};
-use token_laws::tokens_are_pieces;
+use token_print::tokens_are_pieces;
 
 /// The kept tokens of a start, in bytes from 0, with their spellings, of which one is replaced.
 #[derive(Clone, Copy)]

@@ -3,7 +3,7 @@
 ghost use Rattle.std.specs.Prelude.{◌≡◌, ◌≤◌, ◌<◌, ◌&&◌, IfOk, IfSome, IsSome, OnOk, Some, None, length, map, if◌then◌else◌};
 ghost use Rattle.std.specs.Option.{option_copied};
 ghost use Rattle.lexer.specs.Tokens.{token_of};
-ghost use Rattle.token_laws.specs.Readings.{spells};
+ghost use Rattle.token_print.specs.Readings.{spells};
 ghost use Rattle.token_print.specs.Kept.{AreKept};
 ghost use Rattle.reduce_step.specs.Limits.{text_limit};
 ghost use Rattle.reduce_rounds.specs.Trials.{Done, is_done, state_after, tried_state, trials_after};
@@ -31,8 +31,7 @@ use reduce_trees::{HasInput, TreeParts};
 use reduce_trees_mode::texts_are_no_longer;
 use std::alloc::Global;
 use syntax_tree::left_is_part;
-use token_laws::{gaps_are_slices, spelled_are_found, tokens_are_in_order};
-use token_print::{Layout, Style, skips};
+use token_print::{Layout, Style, gaps_are_slices, skips, spelled_are_found, tokens_are_in_order};
 
 /// A text that is tried, and whether it may be asked.
 #[derive(Drop)]

@@ -16,8 +16,9 @@ use crate::printing::{PrintedWords, own_words, print_words};
 use faults::Memory;
 use lexer::{Lexer, Tokens};
 use std::alloc::Global;
-use token_laws::tokens_are_in_order;
-use token_print::{Layout, keeps_tokens, no_longer_than_start, no_longer_than_twice};
+use token_print::{
+    Layout, keeps_tokens, no_longer_than_start, no_longer_than_twice, tokens_are_in_order,
+};
 
 /// Kept tokens of a start, by their numbers from 0, with their spellings, and their text.
 #[derive(Drop)]

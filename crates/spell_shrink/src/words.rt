@@ -3,9 +3,9 @@
 ghost use Rattle.std.specs.Prelude.{◌≡◌, ◌≤◌, ◌<◌, IfOk, Some, length, map, slice_get};
 ghost use Rattle.std.specs.List.{between};
 ghost use Rattle.lexer.specs.Tokens.{token_of};
-ghost use Rattle.token_laws.specs.Laws.{AreInOrder, IsSlice};
+ghost use Rattle.token_print.specs.LexingLaws.{AreInOrder, IsSlice};
 ghost use Rattle.spell_shrink.specs.Words.{shorter_than};
-ghost use Rattle.token_laws.specs.Spelling.{spelling};
+ghost use Rattle.token_print.specs.Spelling.{spelling};
 ghost use Rattle.spell_shrink.specs.KindWords.{AreWordsOf, IsSized, bytes_of_kind, kind_word, word_bytes_of};
 
 use faults::Memory;

@@ -5,8 +5,8 @@ use Rattle.std.proofs.lemmas.Option.{same_Some}
 use Rattle.normal_form.specs.declared.normal.Sym.{Sym}
 use Rattle.normal_form.specs.declared.normal.Sym.TheVariants.{Kind, Set, Rule}
 use Rattle.normal_form.specs.Form.{RuleForm, NormalForm}
-use Rattle.normal_form_spans.specs.Spans.{DerivesSpan, DerivesSpanSeq, DerivesSpanMany}
-use Rattle.normal_form_spans.specs.SpanLaws.{SpansByForm}
+use Rattle.normal_form.specs.Spans.{DerivesSpan, DerivesSpanSeq, DerivesSpanMany}
+use Rattle.normal_form.specs.SpanLaws.{SpansByForm}
 use Rattle.syntax_tree.specs.Trees.{PlainTree, PlainTrees, renumbered, renumbered_all, size, size_all}
 use Rattle.syntax_tree.specs.Preferred.{Preferred, PreferredSeq, PreferredMany, IsLeast, IsLongest, of_kind, of_set, of_regular}
 use Rattle.syntax_tree.specs.Preferred.{of_present, of_absent, of_star, of_plus, of_done, of_next, of_end, of_more}

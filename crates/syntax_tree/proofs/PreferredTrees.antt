@@ -7,10 +7,10 @@ use Rattle.std.proofs.lemmas.Option.{same_Some, slice_get-get_or, slice_get_with
 use Rattle.normal_form.specs.declared.normal.Sym.{Sym}
 use Rattle.normal_form.specs.Form.{NormalForm}
 use Rattle.compat_table.specs.Fits.{itself, in_set}
-use Rattle.normal_form_spans.specs.Spans.{DerivesSpan, DerivesSpanSeq, DerivesSpanMany}
-use Rattle.normal_form_spans.specs.Spans as span
-use Rattle.normal_form_spans.specs.SpanLaws.{SpansByForm}
-use Rattle.normal_form_spans.proofs.Lent.{between_append, between_one}
+use Rattle.normal_form.specs.Spans.{DerivesSpan, DerivesSpanSeq, DerivesSpanMany}
+use Rattle.normal_form.specs.Spans as span
+use Rattle.normal_form.specs.SpanLaws.{SpansByForm}
+use Rattle.normal_form.proofs.Lent.{between_append, between_one}
 use Rattle.syntax_tree.specs.Trees.{PlainTree, PlainTrees, HasTokensFrom, HaveTokensFrom, kinds_of, renumbered, renumbered_all, size, weight, weight_all}
 use Rattle.syntax_tree.specs.inner.Trees.{kinds_of_all}
 use Rattle.syntax_tree.specs.Valid.{IsValid, AreValid, EachIsValid}

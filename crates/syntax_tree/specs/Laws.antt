@@ -5,7 +5,7 @@ use Rattle.normal_form.specs.declared.normal.Sym.{Sym}
 use Rattle.normal_form.specs.Form.{RuleForm, NormalForm}
 use Rattle.normal_form.specs.NormalDerives.{NormalDerives}
 use Rattle.normal_form.specs.NormalOf.{IsNormal}
-use Rattle.normal_form_spans.specs.Spans.{DerivesSpan}
+use Rattle.normal_form.specs.Spans.{DerivesSpan}
 use Rattle.syntax_tree.specs.Trees.{PlainTree, HasTokensFrom, kinds_of, renumbered, weight}
 use Rattle.syntax_tree.specs.Valid.{IsValid}
 use Rattle.syntax_tree.specs.Preferred.{Preferred}

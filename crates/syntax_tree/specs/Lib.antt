@@ -1,6 +1,6 @@
 pub use Rattle.normal_form.specs as NormalForm
 pub use Rattle.compat_table.specs as CompatTable
-pub use Rattle.normal_form_spans.specs.Spans
+pub use Rattle.normal_form.specs.Spans
 pub mod Trees
 pub mod Numbered
 pub mod Valid

@@ -3,8 +3,7 @@
 
 ghost use Rattle.syntax_tree.specs.Laws.{ElementsHaveTokens, NumbersDontMatter, PreferredTreesAreOne, PreferredTreesAreValid, ValidTreesAreDerived};
 
-use normal_form::elements_are_not_empty;
-use normal_form_spans::spans_by_form;
+use normal_form::{elements_are_not_empty, spans_by_form};
 
 /// A slot derives the kinds of each tree that is valid for it.
 pub fn valid_trees_are_derived()

@@ -8,7 +8,7 @@ use Rattle.std.proofs.lemmas.List.{drop_all}
 use Rattle.std.proofs.lemmas.List.Elements.{All-append, All-cons, All-head, All-nil, All-tail, All-weaker}
 use Rattle.lexer.specs.declared.piece.Piece.{Piece}
 use Rattle.lexer.specs.Tokens.{token_of}
-use Rattle.token_laws.specs.Spelling.{gap_text}
+use Rattle.token_print.specs.Spelling.{gap_text}
 use Rattle.token_print.specs.declared.layout.Layout.{Layout}
 use Rattle.token_print.specs.declared.runs.Run.{Run}
 use Rattle.token_print.specs.declared.style.Style.{Style}

@@ -7,8 +7,8 @@ use Rattle.grammar_tree.specs.Lexes.{LexesTo}
 use Rattle.lexer.specs.declared.token.Token.{Token}
 use Rattle.lexer.specs.Pieces.{ArePiecesOf}
 use Rattle.lexer.specs.Tokens.{HasTokens, token_of}
-use Rattle.token_laws.specs.Laws.{AreInOrder, TokensArePieces}
-use Rattle.token_laws.specs.Spelling.{kinds_and_spellings}
+use Rattle.token_print.specs.LexingLaws.{AreInOrder, TokensArePieces}
+use Rattle.token_print.specs.Spelling.{kinds_and_spellings}
 use Rattle.token_print.specs.declared.joins.Joins.{Joins}
 use Rattle.token_print.specs.declared.style.Skips.{Skips}
 use Rattle.token_print.specs.inner.Joins.{IsJoinsOf, IsKeptFrom, ReadsFewFrom, SpellsFrom, items_of, start_of}

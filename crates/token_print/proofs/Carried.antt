@@ -15,7 +15,7 @@ use Rattle.lexer.proofs.Lent.{bytes_order}
 use Rattle.lexer_match.specs.declared.alternative.Seen.{Seen}
 use Rattle.lexer_match.specs.Seen.{IsProperPrefix, IsSeen}
 use Rattle.lexer_match.proofs.Lent.{begins, same_back}
-use Rattle.token_laws.proofs.Lent.{join}
+use Rattle.token_print.proofs.Gaps.{join}
 use Rattle.token_print.specs.declared.runs.Run.{Run}
 use Rattle.token_print.specs.inner.Copies.{IsCopy, run_end}
 use Rattle.token_print.proofs.Copied.{length_between}

@@ -6,8 +6,8 @@ use Rattle.std.specs.Str.{IsCharBoundary, IsUtf8}
 use Rattle.std.proofs.lemmas.List.{drop_at, length-drop, take_at}
 use Rattle.std.proofs.lemmas.Str.{IsCharBoundary-at_seam, IsCharBoundary-end, IsCharBoundary-start, IsUtf8-append, IsUtf8-between}
 use Rattle.grammar_tree.specs.Lexes.{PlacedToken}
-use Rattle.token_laws.specs.Spelling.{gap_end, gap_start, gap_text}
-use Rattle.token_laws.proofs.Lent.{join}
+use Rattle.token_print.specs.Spelling.{gap_end, gap_start, gap_text}
+use Rattle.token_print.proofs.Gaps.{join}
 use Rattle.token_print.specs.declared.style.Skips.{Skips}
 use Rattle.token_print.specs.declared.style.Style.{Style}
 use Rattle.token_print.specs.Printed.{final_newline, separator}

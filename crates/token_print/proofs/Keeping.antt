@@ -7,10 +7,10 @@ use Rattle.grammar_tree.specs.Lexes.{Piece, PlacedToken, StopsAt}
 use Rattle.lexer.specs.Tokens.{HasTokens, ReportsStop, token_of}
 use Rattle.lexer.specs.declared.token.LexFault.{LexFault}
 use Rattle.lexer.specs.declared.token.Token.{Token}
-use Rattle.token_laws.specs.Spelling.{kind_and_spelling, kinds_and_spellings}
-use Rattle.token_laws.specs.Spells.{SpellsTokens}
-use Rattle.token_laws.proofs.Lent.{no_stop, unique}
-use Rattle.token_laws.proofs.Lent as spelled
+use Rattle.token_print.specs.Spelling.{kind_and_spelling, kinds_and_spellings}
+use Rattle.token_print.specs.Spells.{SpellsTokens}
+use Rattle.token_print.proofs.Once.{no_stop, unique}
+use Rattle.token_print.proofs.Spelled as spelled
 use Rattle.token_print.specs.Laws.{KeptKinds}
 
 module _ (G : WrittenGrammar) (text : List ℕ) (spelled : List Piece) where

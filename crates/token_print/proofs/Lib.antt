@@ -1,3 +1,15 @@
+mod Once
+mod Order
+mod Gaps
+mod Pieces
+mod Slices
+mod GapPieces
+mod RunSlices
+mod Spelled
+mod ByReading
+mod Decided
+mod Matching
+mod TextReading
 mod Offsets
 mod SameTokens
 mod Keeping

@@ -7,8 +7,8 @@ use Rattle.std.proofs.lemmas.Option.{slice_get-get_or, slice_get-map}
 use Rattle.grammar_tree.specs.Lexes.{PlacedToken}
 use Rattle.lexer.specs.Tokens.{token_of}
 use Rattle.lexer.specs.declared.token.Token.{Token}
-use Rattle.token_laws.specs.Laws.{IsSlice}
-use Rattle.token_laws.specs.Spelling.{gap_start, spelling, spelling_at}
+use Rattle.token_print.specs.LexingLaws.{IsSlice}
+use Rattle.token_print.specs.Spelling.{gap_start, spelling, spelling_at}
 
 module _ (text : List ℕ) (tokens : List Token) where
   pub there : (i : ℕ) (d : Token) → i < length tokens → slice_get (map token_of tokens) i ≡ Some (token_of (slice_index_or tokens i d))

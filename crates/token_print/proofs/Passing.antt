@@ -11,7 +11,7 @@ use Rattle.grammar_tree.specs.Written.{WrittenGrammar}
 use Rattle.grammar_tree.specs.Lexes.{LexesTo, Piece as PlainPiece, PlacedToken, tokens_of}
 use Rattle.lexer.specs.declared.piece.Piece.{Piece}
 use Rattle.lexer.specs.Pieces.{AreJoined, HasPieces, IsPieceOf}
-use Rattle.token_laws.specs.Spelling.{kind_and_spelling}
+use Rattle.token_print.specs.Spelling.{kind_and_spelling}
 use Rattle.token_print.specs.declared.joins.Joins.{Joins}
 use Rattle.token_print.specs.declared.joins.Progress.{Progress}
 use Rattle.token_print.specs.declared.joins.Stretch.{Stretch}

@@ -7,8 +7,8 @@ use Rattle.grammar_tree.specs.Written.{WrittenGrammar}
 use Rattle.grammar_tree.specs.Lexes.{Piece as PlainPiece, PlacedToken, placed_tokens, tokens_of}
 use Rattle.grammar_tree.proofs.Lent.{one_way}
 use Rattle.lexer.specs.Tokens.{HasTokens}
-use Rattle.token_laws.specs.Laws.{AreInOrder, GapsAreSlices, TokensArePieces}
-use Rattle.token_laws.specs.Spells.{SpellsTokens}
+use Rattle.token_print.specs.LexingLaws.{AreInOrder, GapsAreSlices, TokensArePieces}
+use Rattle.token_print.specs.Spells.{SpellsTokens}
 use Rattle.token_print.specs.declared.runs.Run.{Run}
 use Rattle.token_print.specs.declared.style.Skips.{Skips}
 use Rattle.token_print.specs.declared.style.Style.{Style}

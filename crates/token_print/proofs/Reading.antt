@@ -9,7 +9,7 @@ use Rattle.grammar_tree.specs.Written.{WrittenGrammar}
 use Rattle.grammar_tree.specs.Lexes.{IsNext, Piece as PlainPiece, is_gap_kind}
 use Rattle.lexer.specs.declared.piece.Piece.{Piece}
 use Rattle.lexer.specs.Pieces.{IsPieceOf}
-use Rattle.token_laws.specs.Laws.{IsSlice}
+use Rattle.token_print.specs.LexingLaws.{IsSlice}
 use Rattle.token_print.specs.declared.joins.Joins.{Joins}
 use Rattle.token_print.specs.declared.joins.Progress.{Progress}
 use Rattle.token_print.specs.declared.joins.Stretch.{Stretch}

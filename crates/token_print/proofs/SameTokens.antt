@@ -6,7 +6,7 @@ use Rattle.std.proofs.lemmas.List.Elements.{All-head, All-tail}
 use Rattle.grammar_tree.specs.Lexes.{Piece}
 use Rattle.lexer.specs.Tokens.{token_of}
 use Rattle.lexer.specs.declared.token.Token.{Token}
-use Rattle.token_laws.specs.Spelling.{kind_and_spelling, kinds_and_spellings}
+use Rattle.token_print.specs.Spelling.{kind_and_spelling, kinds_and_spellings}
 use Rattle.token_print.proofs.Offsets.{there}
 
 abbrev pub no_token : Token

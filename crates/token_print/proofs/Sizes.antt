@@ -6,9 +6,9 @@ use Rattle.std.proofs.lemmas.Bool.{eqb-true, eqb-false}
 use Rattle.std.proofs.lemmas.List.{append-nil, length-drop, length-take}
 use Rattle.std.proofs.lemmas.List.Edits.{length-between}
 use Rattle.grammar_tree.specs.Lexes.{PlacedToken}
-use Rattle.token_laws.specs.Laws.{HasRuns}
-use Rattle.token_laws.specs.Spelling.{gap_end, gap_start, gap_text, spelling_at}
-use Rattle.token_laws.proofs.Lent.{are_runs}
+use Rattle.token_print.specs.LexingLaws.{HasRuns}
+use Rattle.token_print.specs.Spelling.{gap_end, gap_start, gap_text, spelling_at}
+use Rattle.token_print.proofs.RunSlices.{are_runs}
 use Rattle.token_print.specs.declared.style.Skips.{Skips}
 use Rattle.token_print.specs.declared.style.Style.{Style}
 use Rattle.token_print.specs.Laws.{NoLongerThanStart}

@@ -2,7 +2,7 @@
 use Rattle.std.proofs.Common.{◌≡◌, ◌↔◌, Bool, true, false, ℕ, refl, sym, ap, ap₂, ◌∙◌}
 use Rattle.grammar_tree.specs.Written.{WrittenGrammar}
 use Rattle.grammar_tree.specs.Faults.{IsWellFormed}
-use Rattle.token_laws.proofs.Lent.{gaps_are}
+use Rattle.token_print.proofs.ByReading.{gaps_are}
 use Rattle.token_print.specs.declared.style.Skips.{Skips}
 use Rattle.token_print.specs.Laws.{PrintedOneWay, PrintedWithSkips, skips_in}
 use Rattle.token_print.specs.Printed.{AreSkipped, printed}

@@ -12,8 +12,8 @@ use Rattle.std.proofs.lemmas.List.Elements.{All-drop, All-head, All-tail, All-ta
 use Rattle.grammar_tree.specs.Lexes.{Piece as PlainPiece, PlacedToken}
 use Rattle.lexer.specs.declared.token.Token.{Token}
 use Rattle.lexer.specs.Tokens.{token_of}
-use Rattle.token_laws.specs.Laws.{AreInOrder, IsSlice}
-use Rattle.token_laws.specs.Spelling.{kind_and_spelling, kinds_and_spellings}
+use Rattle.token_print.specs.LexingLaws.{AreInOrder, IsSlice}
+use Rattle.token_print.specs.Spelling.{kind_and_spelling, kinds_and_spellings}
 use Rattle.token_print.specs.Kept.{AreKept}
 use Rattle.token_print.proofs.Offsets.{there}
 use Rattle.token_print.proofs.Running.{climb}

@@ -10,8 +10,8 @@ use Rattle.std.proofs.lemmas.Option.{slice_get-get_or, slice_get_past}
 use Rattle.grammar_tree.specs.Written.{WrittenGrammar}
 use Rattle.grammar_tree.specs.Lexes.{PlacedToken}
 use Rattle.lexer.specs.Tokens.{HasTokens}
-use Rattle.token_laws.specs.Laws.{AreInOrder, GapsAreSlices}
-use Rattle.token_laws.specs.Spelling.{gap_end, gap_start, spelling}
+use Rattle.token_print.specs.LexingLaws.{AreInOrder, GapsAreSlices}
+use Rattle.token_print.specs.Spelling.{gap_end, gap_start, spelling}
 use Rattle.token_print.proofs.Copied.{HasBounds}
 use Rattle.token_print.proofs.Stretches.{AreRising, HasOffsets}
 

@@ -13,7 +13,7 @@ use Rattle.grammar_tree.proofs.Lent.{one_way}
 use Rattle.lexer.specs.declared.piece.Piece.{Piece}
 use Rattle.lexer.specs.Pieces.{AreJoined, HasPieces, IsPieceOf}
 use Rattle.lexer.specs.Tokens.{HasTokens}
-use Rattle.token_laws.specs.Spelling.{kind_and_spelling}
+use Rattle.token_print.specs.Spelling.{kind_and_spelling}
 use Rattle.token_print.specs.inner.Joins.{PiecesRise}
 use Rattle.token_print.proofs.Copied.{length_between}
 

@@ -6,8 +6,8 @@ use Rattle.std.specs.Bool.{⊤}
 use Rattle.std.proofs.lemmas.Bool.{cases_lt}
 use Rattle.std.proofs.lemmas.List.{append-nil, append_cancel_right}
 use Rattle.grammar_tree.specs.Lexes.{PlacedToken}
-use Rattle.token_laws.specs.Spelling.{gap_end, gap_start, gap_text, spelling_at}
-use Rattle.token_laws.proofs.Lent.{join}
+use Rattle.token_print.specs.Spelling.{gap_end, gap_start, gap_text, spelling_at}
+use Rattle.token_print.proofs.Gaps.{join}
 use Rattle.token_print.specs.declared.style.Skips.{Skips}
 use Rattle.token_print.specs.declared.style.Style.{Style}
 use Rattle.token_print.specs.Printed.{final_newline, printed_after, separator}

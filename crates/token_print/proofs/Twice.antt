@@ -1,9 +1,9 @@
 -- Squeezed, no text has more than twice the bytes of the start, and one more.
 use Rattle.std.proofs.Common.{◌≡◌, ℕ, suc, ◌+◌, ◌-◌, ◌*◌, ◌<◌, ◌≤◌, List, [], ◌∷◌, ◌++◌, Option, Some, None, length, ap, arith, length-append}
 use Rattle.grammar_tree.specs.Lexes.{PlacedToken}
-use Rattle.token_laws.specs.Laws.{HasRuns}
-use Rattle.token_laws.specs.Spelling.{gap_start, gap_text, spelling_at}
-use Rattle.token_laws.proofs.Lent.{are_runs}
+use Rattle.token_print.specs.LexingLaws.{HasRuns}
+use Rattle.token_print.specs.Spelling.{gap_start, gap_text, spelling_at}
+use Rattle.token_print.proofs.RunSlices.{are_runs}
 use Rattle.token_print.specs.declared.style.Skips.{Skips}
 use Rattle.token_print.specs.declared.style.Style.{Style}
 use Rattle.token_print.specs.Laws.{NoLongerThanTwice}

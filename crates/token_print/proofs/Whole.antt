@@ -3,8 +3,8 @@ use Rattle.std.proofs.Common.{◌≡◌, ℕ, zero, suc, ◌+◌, ◌<◌, List,
 use Rattle.std.proofs.Common.{length, map, refl, sym, ap, ◌∙◌, arith, append_assoc, eq-eqb}
 use Rattle.std.specs.List.{cons_option, filter_map, flat_map, range_with_len}
 use Rattle.grammar_tree.specs.Lexes.{PlacedToken}
-use Rattle.token_laws.specs.Spelling.{gap_and_spelling, gap_text, kind_and_spelling, spelling_at}
-use Rattle.token_laws.proofs.Lent.{are_text}
+use Rattle.token_print.specs.Spelling.{gap_and_spelling, gap_text, kind_and_spelling, spelling_at}
+use Rattle.token_print.proofs.Gaps.{are_text}
 use Rattle.token_print.specs.declared.style.Skips.{Skips}
 use Rattle.token_print.specs.declared.style.Style.{Style}
 use Rattle.token_print.specs.Laws.{AllKeptIsStart, StartKeepsTokens}

@@ -4,8 +4,8 @@ use Rattle.std.specs.List.{All}
 use Rattle.std.specs.List.Sorted.{IsStrictlyIncreasing}
 use Rattle.grammar_tree.specs.Written.{WrittenGrammar}
 use Rattle.grammar_tree.specs.Lexes.{PlacedToken}
-use Rattle.token_laws.specs.Spelling.{kinds_and_spellings}
-use Rattle.token_laws.specs.Spells.{SpellsTokens}
+use Rattle.token_print.specs.Spelling.{kinds_and_spellings}
+use Rattle.token_print.specs.Spells.{SpellsTokens}
 
 -- The numbers are those of tokens, and they rise strictly.
 pub record AreKept (tokens : List PlacedToken) (kept : List ℕ) : Type 0 where

@@ -1,3 +1,8 @@
+pub mod Spelling
+pub mod LexingLaws
+pub mod Spells
+pub mod Reading
+pub mod Readings
 pub mod Printed
 pub mod Kept
 pub mod Runs

@@ -4,7 +4,7 @@ use Rattle.std.specs.List.{list_any}
 use Rattle.grammar_tree.specs.Written.{WrittenGrammar}
 use Rattle.grammar_tree.specs.Lexes.{PlacedToken}
 use Rattle.lexer.specs.Tokens.{IsGapText}
-use Rattle.token_laws.specs.Spelling.{gap_text, spelling_at}
+use Rattle.token_print.specs.Spelling.{gap_text, spelling_at}
 use Rattle.token_print.specs.declared.style.Skips.{Skips}
 use Rattle.token_print.specs.declared.style.Style.{Style}
 

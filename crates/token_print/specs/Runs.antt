@@ -4,7 +4,7 @@ use Rattle.std.specs.Prelude.{ℕ, suc, nat_eq, nat_le, nat_lt, Bool, ◌&&◌, 
 use Rattle.std.specs.List.{list_any}
 use Rattle.grammar_tree.specs.Lexes.{Piece as PlainPiece, PlacedToken}
 use Rattle.lexer.specs.declared.piece.Piece.{Piece}
-use Rattle.token_laws.specs.Spelling.{gap_end, gap_start, gap_text}
+use Rattle.token_print.specs.Spelling.{gap_end, gap_start, gap_text}
 use Rattle.token_print.specs.declared.style.Skips.{Skips}
 use Rattle.token_print.specs.declared.style.Style.{Style}
 use Rattle.token_print.specs.declared.runs.Run.{Run}

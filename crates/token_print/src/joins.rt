@@ -7,8 +7,8 @@ ghost use Rattle.std.specs.Str.{chars, IsCharBoundary};
 ghost use Rattle.grammar_tree.specs.Lexes.{Piece as PlainPiece};
 ghost use Rattle.lexer.specs.Pieces.{AreFarthest, ArePiecesOf};
 ghost use Rattle.lexer.specs.Tokens.{HasTokens, token_of};
-ghost use Rattle.token_laws.specs.Laws.{AreInOrder, IsSlice};
-ghost use Rattle.token_laws.specs.Spelling.{kind_and_spelling, kinds_and_spellings};
+ghost use Rattle.token_print.specs.LexingLaws.{AreInOrder, IsSlice};
+ghost use Rattle.token_print.specs.Spelling.{kind_and_spelling, kinds_and_spellings};
 ghost use Rattle.token_print.specs.inner.Ahead.{IsCurrent};
 ghost use Rattle.token_print.specs.inner.Copies.{AreCopied};
 ghost use Rattle.token_print.specs.inner.Joins.{AreCarried, AreOthers, ArePassed, IsCarriedStretch, IsJoinsOf, IsKeptFrom, IsPassed, PiecesRise};
@@ -19,12 +19,12 @@ ghost use Rattle.token_print.specs.Reads.{ReadsFew};
 ghost use Rattle.token_print.specs.Runs.{is_carried, is_copy_at};
 
 use crate::layout::Layout;
+use crate::lexing_laws::{gaps_are_slices, tokens_are_in_order, tokens_are_pieces};
 use crate::runs::{Run, Runs};
 use crate::same::{are_same, is_same};
 use crate::style::{Skips, Style};
 use faults::Memory;
 use lexer::{Piece, PieceReader, Pieces, Token, Tokens};
-use token_laws::{gaps_are_slices, tokens_are_in_order, tokens_are_pieces};
 
 /// How far a text was read: the offset, and how many tokens were found before it.
 #[derive(Clone, Copy)]

@@ -5,10 +5,10 @@ ghost use Rattle.std.specs.Str.{chars};
 ghost use Rattle.lexer.specs.Tokens.{HasTokens, token_of};
 ghost use Rattle.token_print.specs.Kept.{AreKept, KeepsTokens};
 
+use crate::lexing_laws::tokens_are_in_order;
 use crate::same::are_same;
 use faults::Memory;
 use lexer::{LexFault, Lexer, Tokens};
-use token_laws::tokens_are_in_order;
 
 /// Whether the text is UTF-8 and cut into tokens with exactly the kinds and spellings of the kept
 /// tokens of the start, in their order, wherever they are in the text. The kept ones are given by

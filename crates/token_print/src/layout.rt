@@ -4,8 +4,8 @@ ghost use Rattle.std.specs.Prelude.{◌≡◌, ℕ, ◌<◌, ◌≤◌, ◌^◌,
 ghost use Rattle.std.specs.List.{All};
 ghost use Rattle.std.specs.List.Sorted.{IsStrictlyIncreasing};
 ghost use Rattle.lexer.specs.Tokens.{token_of};
-ghost use Rattle.token_laws.specs.Laws.{AreInOrder};
-ghost use Rattle.token_laws.specs.Spelling.{gap_end, gap_start, gap_text, spelling_at};
+ghost use Rattle.token_print.specs.LexingLaws.{AreInOrder};
+ghost use Rattle.token_print.specs.Spelling.{gap_end, gap_start, gap_text, spelling_at};
 ghost use Rattle.token_print.specs.Kept.{AreKept};
 ghost use Rattle.token_print.specs.Printed.{after, final_newline, printed, printed_after, separator};
 ghost use Rattle.token_print.specs.Runs.{run_at, run_from, run_limit, run_to, runs, runs_at, stretches};

@@ -10,6 +10,13 @@
 //! and a piece in a run that has all that it has seen comes again (`joins`).
 //!
 //! [`Layout`] has the parts of which a text is printed: what may be printed before and after each token.
+//!
+//! What is known of the tokens of any text, `specs/LexingLaws.antt` says, for the proofs of the crates
+//! that take texts apart and put them together again. It begins with `specs/Spelling.antt`, a token's
+//! spelling and the gaps between tokens over the bytes of a text; `specs/Spells.antt` says of a text that
+//! it is cut into given tokens, and `specs/Reading.antt` has the tokens of a text as a function. A text
+//! has one list of tokens at most ([`tokens_are_unique`]). Each law is a function that does nothing: a
+//! caller calls it so that its proof has the law.
 #![tactic(auto)]
 
 mod joins;
@@ -17,6 +24,7 @@ mod keeps;
 mod kept_numbers;
 mod laws;
 mod layout;
+mod lexing_laws;
 mod print_kept;
 mod runs;
 mod same;
@@ -32,6 +40,12 @@ pub use laws::{
     printed_one_way, printed_with_skips, start_keeps_tokens, worked_texts,
 };
 pub use layout::Layout;
+pub use lexing_laws::{
+    each_text_is_read, equal_characters_equal_bytes, gaps_and_spellings_are_text, gaps_are_found,
+    gaps_are_gap_pieces, gaps_are_slices, runs_are_text, spelled_are_found, spelled_kinds,
+    spelled_one_way, tokens_are_found, tokens_are_in_order, tokens_are_longest_matches,
+    tokens_are_pieces, tokens_are_unique, tokens_have_kinds, tokens_have_no_stop,
+};
 pub use print_kept::{print, skips};
 pub use runs::Run;
 pub use spellings::spelling;

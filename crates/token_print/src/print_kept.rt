@@ -7,11 +7,11 @@ ghost use Rattle.token_print.specs.Kept.{AreKept};
 ghost use Rattle.token_print.specs.Printed.{AreSkipped, IsPrinted};
 
 use crate::layout::Layout;
+use crate::lexing_laws::{gaps_are_slices, tokens_are_in_order};
 use crate::style::{Skips, Style};
 use faults::Memory;
 use lexer::{Lexer, Tokens};
 use std::alloc::Global;
-use token_laws::{gaps_are_slices, tokens_are_in_order};
 
 /// Which of the characters that separate tokens the lexer skips.
 pub fn skips(lexer: &Lexer) -> Result<Skips, Memory>

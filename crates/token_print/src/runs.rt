@@ -4,10 +4,10 @@ ghost use Rattle.std.specs.Prelude.{◌≡◌, ◌≢◌, ◌⊎◌, ◌≤◌, 
 ghost use Rattle.std.specs.List.{All};
 ghost use Rattle.std.specs.List.Sorted.{IsStrictlyIncreasing};
 ghost use Rattle.lexer.specs.Tokens.{token_of};
-ghost use Rattle.token_laws.specs.Laws.{AreInOrder};
+ghost use Rattle.token_print.specs.LexingLaws.{AreInOrder};
 ghost use Rattle.token_print.specs.inner.Ahead.{HasPassed, IsStretch, RunsAreShort, all_ahead, runs_from};
 ghost use Rattle.token_print.specs.inner.Copies.{run_end};
-ghost use Rattle.token_laws.specs.Spelling.{gap_text};
+ghost use Rattle.token_print.specs.Spelling.{gap_text};
 ghost use Rattle.token_print.specs.Printed.{separator};
 ghost use Rattle.token_print.specs.Runs.{runs, stretches};
 

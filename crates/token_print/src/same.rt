@@ -3,12 +3,12 @@
 ghost use Rattle.std.specs.Prelude.{◌≡◌, ◌↔◌, ◌<◌, IsTrue, length, map};
 ghost use Rattle.std.specs.List.{All};
 ghost use Rattle.lexer.specs.Tokens.{token_of};
-ghost use Rattle.token_laws.specs.Laws.{IsSlice};
-ghost use Rattle.token_laws.specs.Spelling.{kind_and_spelling, kinds_and_spellings};
+ghost use Rattle.token_print.specs.LexingLaws.{IsSlice};
+ghost use Rattle.token_print.specs.Spelling.{kind_and_spelling, kinds_and_spellings};
 
+use crate::lexing_laws::equal_characters_equal_bytes;
 use crate::spellings::spelling;
 use lexer::Token;
-use token_laws::equal_characters_equal_bytes;
 
 /// Whether two tokens, each of its own text, have the same kind and the same spelling.
 pub(crate) fn is_same(text: &str, token: Token, other_text: &str, other: Token) -> bool

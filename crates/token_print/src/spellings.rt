@@ -2,8 +2,8 @@
 
 ghost use Rattle.std.specs.Prelude.{◌≡◌};
 ghost use Rattle.lexer.specs.Tokens.{token_of};
-ghost use Rattle.token_laws.specs.Laws.{IsSlice};
-ghost use Rattle.token_laws.specs.Spelling.{spelling};
+ghost use Rattle.token_print.specs.LexingLaws.{IsSlice};
+ghost use Rattle.token_print.specs.Spelling.{spelling};
 
 use lexer::Token;
 

@@ -10,7 +10,7 @@ use Rattle.lexer.specs.declared.token.Tokens.{Tokens}
 use Rattle.normal_form.specs.Form.{NormalForm}
 use Rattle.normal_form.specs.NormalOf.{normal_of}
 use Rattle.reduce_step.specs.Limits.{text_limit}
-use Rattle.token_laws.specs.Spelling.{spelling_at}
+use Rattle.token_print.specs.Spelling.{spelling_at}
 use Rattle.token_print.specs.declared.style.Skips.{Skips}
 use Rattle.token_print.specs.declared.style.Style.{Style}
 use Rattle.token_print.specs.Printed.{AreSkipped}

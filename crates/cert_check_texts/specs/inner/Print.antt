@@ -3,8 +3,8 @@ use Rattle.std.specs.Prelude.{◌≡◌, ◌<◌, ◌^◌, ℕ, List, Option, So
 use Rattle.std.specs.List.{Contains}
 use Rattle.grammar_tree.specs.Lexes.{PlacedToken}
 use Rattle.lexer.specs.Tokens.{token_of}
-use Rattle.token_laws.specs.Laws.{AreInOrder}
-use Rattle.token_laws.specs.Spelling.{spelling_at}
+use Rattle.token_print.specs.LexingLaws.{AreInOrder}
+use Rattle.token_print.specs.Spelling.{spelling_at}
 use Rattle.cert_check_texts.specs.inner.Numbers.{HasNumbers}
 use Rattle.cert_check_texts.specs.inner.Reached as steps
 use Rattle.cert_check_texts.specs.inner.Reached.{AreSeparators, Follows, LeavesOut}

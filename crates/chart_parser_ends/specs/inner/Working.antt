@@ -5,7 +5,7 @@ use Rattle.std.specs.List.Sorted.{IsStrictlyIncreasing}
 use Rattle.normal_form.specs.declared.normal.Sym.{Sym}
 use Rattle.normal_form.specs.declared.normal.Sym.TheVariants.{Kind, Rule}
 use Rattle.normal_form.specs.Form.{RuleForm, NormalForm}
-use Rattle.normal_form_spans.specs.Spans.{DerivesSpan, DerivesSpanSeq, DerivesSpanMany}
+use Rattle.normal_form.specs.Spans.{DerivesSpan, DerivesSpanSeq, DerivesSpanMany}
 use Rattle.chart_parser_ends.specs.declared.choice.Choice.{Choice}
 use Rattle.chart_parser_ends.specs.declared.optional.Optional.{Optional}
 use Rattle.chart_parser_ends.specs.declared.repetition.Repetition.{Repetition}

@@ -4,7 +4,7 @@ use Rattle.std.specs.List.{Contains}
 use Rattle.normal_form.specs.declared.normal.Sym.{Sym}
 use Rattle.normal_form.specs.declared.normal.Sym.TheVariants.{Kind, Set, Rule}
 use Rattle.normal_form.specs.Form.{RuleForm, NormalForm}
-use Rattle.normal_form_spans.specs.Spans.{DerivesSpanSeq, DerivesSpanMany}
+use Rattle.normal_form.specs.Spans.{DerivesSpanSeq, DerivesSpanMany}
 use Rattle.chart_parser_prefix.specs.inner.Productive.{DerivesSomeSeq}
 
 -- A rule that can come next at the position i makes a symbol come next at the position m.

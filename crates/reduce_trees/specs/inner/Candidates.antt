@@ -1,7 +1,7 @@
 -- Candidates by the numbers of the tokens that they keep.
 use Rattle.std.specs.Prelude.{◌≡◌, ◌&&◌, ◌≤◌, ℕ, Bool, List, length}
-use Rattle.token_laws.specs.Readings.{spells}
-use Rattle.token_laws.specs.Spelling.{kinds_and_spellings}
+use Rattle.token_print.specs.Readings.{spells}
+use Rattle.token_print.specs.Spelling.{kinds_and_spellings}
 use Rattle.token_print.specs.declared.style.Style.{Style}
 use Rattle.reduce_step.specs.Limits.{text_limit}
 use Rattle.reduce_trees_mode.specs.Input.{TreeInput}

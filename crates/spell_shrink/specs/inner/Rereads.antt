@@ -9,7 +9,7 @@ use Rattle.grammar_tree.specs.Lexes.{Piece, is_gap_kind}
 use Rattle.lexer.specs.declared.piece.Piece.{Piece as PlacedPiece}
 use Rattle.lexer.specs.Pieces.{HasNoPieceAt, IsPieceOf}
 use Rattle.lexer.specs.Tokens.{token_of}
-use Rattle.token_laws.specs.Spells.{SpellsTokens}
+use Rattle.token_print.specs.Spells.{SpellsTokens}
 use Rattle.token_print.specs.inner.Joins.{SpellsFrom}
 use Rattle.spell_shrink.specs.declared.change.Change.{Change}
 use Rattle.spell_shrink.specs.declared.cut_text.Progress.{Progress}

@@ -7,8 +7,8 @@ use Rattle.grammar_tree.specs.Lexes.{LexesTo, Piece as PlainPiece, PlacedToken, 
 use Rattle.lexer.specs.declared.piece.Piece.{Piece}
 use Rattle.lexer.specs.Pieces.{ArePiecesOf}
 use Rattle.lexer.specs.Tokens.{HasTokens, token_of}
-use Rattle.token_laws.specs.Laws.{AreInOrder}
-use Rattle.token_laws.specs.Spelling.{kind_and_spelling, kinds_and_spellings}
+use Rattle.token_print.specs.LexingLaws.{AreInOrder}
+use Rattle.token_print.specs.Spelling.{kind_and_spelling, kinds_and_spellings}
 use Rattle.token_print.specs.declared.joins.Joins.{Joins}
 use Rattle.token_print.specs.declared.joins.Progress.{Progress}
 use Rattle.token_print.specs.declared.joins.Stretch.{Stretch}

@@ -2,7 +2,7 @@
 use Rattle.std.specs.Prelude.{ℕ, suc, nat_eq, cond, ◌-◌, List, [], ◌∷◌, ◌++◌, drop, length, slice_index}
 use Rattle.std.specs.List.{between}
 use Rattle.grammar_tree.specs.Lexes.{PlacedToken}
-use Rattle.token_laws.specs.Spelling.{gap_text}
+use Rattle.token_print.specs.Spelling.{gap_text}
 use Rattle.token_print.specs.declared.style.Skips.{Skips}
 use Rattle.token_print.specs.declared.style.Style.{Style}
 use Rattle.token_print.specs.Printed.{final_newline, separator}

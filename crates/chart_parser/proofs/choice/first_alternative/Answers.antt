@@ -1,6 +1,6 @@
 use Rattle.std.proofs.Common.{refl, ◌∙◌, subst, arith}
 use Rattle.normal_form.specs.View.{alts_form}
-use Rattle.normal_form_spans.specs.Spans.{DerivesSpanSeq}
+use Rattle.normal_form.specs.Spans.{DerivesSpanSeq}
 use Rattle.chart_parser_ends.specs.Input.{ChartInput}
 use Rattle.chart_parser.specs.inner.Parts.{AreParts}
 use Rattle.chart_parser.proofs.Alternatives.{alternative_before, alternative_is, one_more_refused}

@@ -1,7 +1,7 @@
 use Rattle.std.proofs.Common.{◌≡◌, ℕ, ◌<◌, List, Some, slice_get}
 use Rattle.normal_form.specs.declared.normal.Sym.{Sym}
 use Rattle.normal_form.specs.View.{alts_form}
-use Rattle.normal_form_spans.specs.Spans.{DerivesSpanSeq}
+use Rattle.normal_form.specs.Spans.{DerivesSpanSeq}
 use Rattle.chart_parser.proofs.choice.first_alternative.Given as goal
 
 abbrev pub invariant-loop-number : goal.invariant-loop-number

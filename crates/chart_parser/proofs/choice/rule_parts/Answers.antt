@@ -4,7 +4,7 @@ use Rattle.normal_form.specs.declared.normal.Sym.{Sym}
 use Rattle.normal_form.specs.Form.{RuleForm, NormalForm}
 use Rattle.normal_form.specs.NormalOf.{IsNormal}
 use Rattle.normal_form.specs.View.{alts_form, rule_form}
-use Rattle.normal_form_spans.specs.Spans.{DerivesSpanMany, DerivesSpanSeq}
+use Rattle.normal_form.specs.Spans.{DerivesSpanMany, DerivesSpanSeq}
 use Rattle.chart_parser.specs.inner.Parts.{AreOfLeast, AreOfRule}
 use Rattle.chart_parser.proofs.Alternatives.{count_alternatives, optional_derived, plus_derived, plus_is_list}
 use Rattle.chart_parser.proofs.Alternatives.{regular_derived, rule_at, rule_within, star_derived, star_is_list}

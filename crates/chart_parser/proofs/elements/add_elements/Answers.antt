@@ -1,5 +1,5 @@
 use Rattle.std.proofs.Common.{List, ◌<◌, refl, sym, ◌∙◌, subst, arith}
-use Rattle.normal_form_spans.specs.Spans.{DerivesSpan}
+use Rattle.normal_form.specs.Spans.{DerivesSpan}
 use Rattle.chart_parser_ends.specs.Input.{ChartInput}
 use Rattle.chart_parser_ends.specs.Positions.{IsLastAmong}
 use Rattle.chart_parser.specs.declared.part.Part.{Part}

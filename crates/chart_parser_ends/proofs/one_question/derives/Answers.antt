@@ -1,7 +1,7 @@
 use Rattle.std.proofs.Common.{IfOk, length, subst}
 use Rattle.std.specs.Prelude.{◌↔◌, IsTrue}
 use Rattle.std.proofs.lemmas.Result.{IfOk-weaker}
-use Rattle.normal_form_spans.specs.Spans.{DerivesSpan}
+use Rattle.normal_form.specs.Spans.{DerivesSpan}
 use Rattle.chart_parser_ends.proofs.Spans.{lists}
 use Rattle.chart_parser_ends.proofs.one_question.derives.Goals as goal
 

@@ -5,7 +5,7 @@ use Rattle.chart_parser_prefix.proofs.Growing.{read_at}
 use Rattle.chart_parser_prefix.proofs.Walking.{all_following, derived_to, walk_begins}
 use Rattle.chart_parser_prefix.specs.inner.Following.{IsTokenOfOne}
 use Rattle.normal_form.specs.declared.normal.Sym.{Sym}
-use Rattle.normal_form_spans.specs.Spans.{DerivesSpan}
+use Rattle.normal_form.specs.Spans.{DerivesSpan}
 use Rattle.std.specs.Prelude.{IsTrue}
 use Rattle.chart_parser_prefix.proofs.prefix.found_prefix.Goals as goal
 

@@ -7,7 +7,7 @@ use Rattle.chart_parser_prefix.proofs.Alternatives.{alternative_all, alternative
 use Rattle.chart_parser_prefix.proofs.Growing.{grown_none}
 use Rattle.chart_parser_prefix.specs.inner.Walk.{ExpectsAll, IsAtOneOf, IsGrownBy}
 use Rattle.normal_form.specs.declared.normal.Sym.TheVariants.{Kind}
-use Rattle.normal_form_spans.specs.Spans.{DerivesSpanSeq}
+use Rattle.normal_form.specs.Spans.{DerivesSpanSeq}
 use Rattle.std.specs.List.{Contains}
 use Rattle.chart_parser_prefix.proofs.search.add_alternative.Goals as goal
 

@@ -1,5 +1,5 @@
 use Rattle.std.proofs.Common.{◌≡◌, take}
-use Rattle.normal_form_spans.specs.Spans.{DerivesSpanSeq}
+use Rattle.normal_form.specs.Spans.{DerivesSpanSeq}
 use Rattle.chart_parser_ends.specs.Positions.{HasExactly}
 use Rattle.chart_parser_prefix.specs.inner.Expected.{IsInAlternative}
 use Rattle.chart_parser_prefix.specs.inner.Walk.{ExpectsAll, IsGrownBy}

@@ -1,6 +1,6 @@
 use Rattle.std.proofs.Common.{ap, false, subst, sym, true, ◌∙◌, ◌≡◌}
 use Rattle.chart_parser_prefix.specs.inner.Expected.{is_token}
-use Rattle.normal_form_spans.specs.Spans.{DerivesSpan}
+use Rattle.normal_form.specs.Spans.{DerivesSpan}
 use Rattle.chart_parser_prefix.proofs.search.is_next.Goals as goal
 
 false_true : false ≡ true → ⊥

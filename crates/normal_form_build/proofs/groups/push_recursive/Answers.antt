@@ -7,7 +7,7 @@ use Rattle.normal_form.specs.Form.{RuleForm}
 use Rattle.normal_form.specs.Numbering.{alts_rules, base_symbols, head_of, rest_symbols}
 use Rattle.normal_form.specs.NormalOf.{numbering}
 use Rattle.normal_form.specs.View.{alts_form, rule_form}
-use Rattle.normal_form_terms.proofs.Lent.{replaced_head}
+use Rattle.normal_form_build.proofs.Replaced.{replaced_head}
 use Rattle.normal_form_build.proofs.groups.push_recursive.Goals as goal
 
 pub returns-clause-rules : goal.returns-clause-rules

@@ -1,5 +1,5 @@
 use Rattle.normal_form.specs.Numbering.{tail}
-use Rattle.normal_form_terms.proofs.Lent.{alts_form_more}
+use Rattle.normal_form_build.proofs.RuleSteps.{alts_form_more}
 use Rattle.normal_form_build.proofs.groups.push_rest.Goals as goal
 
 pub returns : goal.returns

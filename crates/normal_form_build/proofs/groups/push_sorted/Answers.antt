@@ -6,8 +6,8 @@ use Rattle.grammar_tree.specs.Written.{written_alts, written_seq}
 use Rattle.normal_form.specs.Numbering.{alts_rules, base_symbols, rest_symbols}
 use Rattle.normal_form.specs.NormalOf.{numbering}
 use Rattle.normal_form.specs.View.{alts_form, rule_form}
-use Rattle.normal_form_terms.proofs.Lent.{alt_fits, alt_taken, alts_are, alts_end, alts_rules_end, alts_rules_more, alts_total}
-use Rattle.normal_form_terms.proofs.Lent.{alts_total_end, bases_end, bases_more, rests_end, rests_more}
+use Rattle.normal_form_build.proofs.RuleSteps.{alt_fits, alt_taken, alts_are, alts_end, alts_rules_end, alts_rules_more, alts_total}
+use Rattle.normal_form_build.proofs.RuleSteps.{alts_total_end, bases_end, bases_more, rests_end, rests_more}
 use Rattle.normal_form_build.proofs.groups.push_sorted.Goals as goal
 
 pub loop-alt-init : goal.loop-alt-init

@@ -5,7 +5,7 @@ use Rattle.grammar_tree.specs.View.{parser_terms}
 use Rattle.grammar_tree.specs.Written.{written_seq}
 use Rattle.normal_form.specs.declared.normal.Sym.{Sym}
 use Rattle.normal_form.specs.View.{alts_form}
-use Rattle.normal_form_terms.proofs.Lent.{is_rest}
+use Rattle.normal_form_build.proofs.RuleSteps.{is_rest}
 use Rattle.normal_form_build.proofs.groups.sort.Goals as goal
 
 pub returns-then-is_recursive-clause-rests : goal.returns-then-is_recursive-clause-rests

@@ -11,7 +11,7 @@ use Rattle.grammar_names.specs.KindLists.{IsPartOf, lacking, named_kinds}
 use Rattle.normal_form.specs.NormalOf.{term_sets, seq_sets, alts_sets}
 use Rattle.normal_form_sets.specs.Sets.{SetsOfKinds, with_each}
 use Rattle.normal_form_sets.proofs.Lent.{lacks_none, none_part, sets_step, sets_end}
-use Rattle.normal_form_terms.proofs.Lent.{lacks_named, named_part}
+use Rattle.normal_form_build.proofs.NamedSets.{lacks_named, named_part}
 use Rattle.normal_form_build.proofs.sets.+sets.Goals as goal
 
 pub with_term-with-requires : goal.with_term-with-requires

@@ -1,7 +1,7 @@
 use Rattle.std.proofs.Common.{◌∙◌, ℕ, List, map, ap, sym, subst}
 use Rattle.grammar_tree.specs.Lexes.{PlacedToken}
 use Rattle.lexer.specs.Tokens.{token_of}
-use Rattle.token_laws.specs.Laws.{AreInOrder}
+use Rattle.token_print.specs.LexingLaws.{AreInOrder}
 use Rattle.reduce_trees_mode.specs.Input.{TreeInput}
 use Rattle.reduce_trees_mode.specs.InputOf.{input_of}
 use Rattle.run_gated.specs.Seen.{reached}

@@ -5,7 +5,7 @@ use Rattle.std.proofs.lemmas.List.Elements.{All-nil, All-push}
 use denote.Ref.{Bor}
 use Rattle.grammar_tree.specs.Lexes.{PlacedToken}
 use Rattle.lexer.specs.Tokens.{token_of}
-use Rattle.token_laws.specs.Spelling.{spelling_at}
+use Rattle.token_print.specs.Spelling.{spelling_at}
 use Rattle.spell_shrink.specs.Respelling.{own_spellings}
 use Rattle.spell_shrink.specs.inner.Changes.{respelling_of_words}
 use Rattle.spell_shrink.proofs.WordPrinting.{own_push, respelling_pushed}

@@ -2,7 +2,7 @@ use Rattle.std.proofs.Common.{◌≡◌, ◌∙◌, ◌&&◌, ◌↔◌, Bool, s
 use Rattle.std.specs.Prelude.{IsTrue}
 use Rattle.grammar_tree.specs.Written.{CheckedGrammar, WrittenGrammar}
 use Rattle.lexer.specs.Reads.{LexReads}
-use Rattle.token_laws.specs.Spells.{SpellsTokens}
+use Rattle.token_print.specs.Spells.{SpellsTokens}
 use Rattle.reduce_trees.proofs.Lent.{kept_rise}
 use Rattle.reduce_trees_mode.specs.Input.{TreeInput}
 use Rattle.reduce_trees_mode.specs.InputOf.{input_of}

@@ -1,7 +1,7 @@
 use Rattle.std.proofs.Common.{◌≡◌, ◌↔◌, Bool, true, false, ℕ, refl, sym, ap₂, subst}
 use Rattle.grammar_tree.specs.Faults.{IsWellFormed}
 use Rattle.grammar_tree.specs.Written.{CheckedGrammar, WrittenGrammar}
-use Rattle.token_laws.proofs.Lent.{gaps_are}
+use Rattle.token_print.proofs.Lent.{gaps_are}
 use Rattle.token_print.specs.declared.style.Skips.{Skips}
 use Rattle.token_print.specs.Laws.{skips_in}
 use Rattle.token_print.specs.Printed.{AreSkipped}

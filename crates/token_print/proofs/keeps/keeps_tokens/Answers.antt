@@ -2,8 +2,8 @@ use Rattle.std.proofs.Common.{ℕ, List, map, sym, subst, true≢false}
 use Rattle.std.specs.Str.{IsUtf8}
 use Rattle.lexer.specs.Tokens.{token_of}
 use Rattle.lexer.specs.declared.token.Token.{Token}
-use Rattle.token_laws.specs.Laws.{AreInOrder}
-use Rattle.token_laws.specs.Spelling.{kinds_and_spellings}
+use Rattle.token_print.specs.LexingLaws.{AreInOrder}
+use Rattle.token_print.specs.Spelling.{kinds_and_spellings}
 use Rattle.token_print.proofs.Keeping as keeping
 use Rattle.token_print.proofs.keeps.keeps_tokens.Goals as goal
 

@@ -1,7 +1,7 @@
 use Rattle.std.proofs.Common.{List, map, sym, ap, ◌∙◌, subst}
 use Rattle.lexer.specs.Tokens.{token_of}
 use Rattle.lexer.specs.declared.token.Token.{Token}
-use Rattle.token_laws.specs.Laws.{AreInOrder}
+use Rattle.token_print.specs.LexingLaws.{AreInOrder}
 use Rattle.token_print.specs.Printed.{printed}
 use Rattle.token_print.proofs.PrintedCopies.{printed_copies}
 use Rattle.token_print.proofs.print_kept.print.Goals as goal

@@ -1,6 +1,6 @@
 use Rattle.std.proofs.Common.{◌≡◌, ℕ, arith, length, map, refl, subst, ◌∙◌}
 use Rattle.lexer.specs.Tokens.{token_of}
-use Rattle.token_laws.specs.Spelling.{spelling_at}
+use Rattle.token_print.specs.Spelling.{spelling_at}
 use Rattle.token_print.proofs.Lent.{slice}
 use Rattle.cert_check_texts.specs.inner.Numbers.{HasNumbers}
 use Rattle.cert_check_texts.specs.declared.numbers.Numbers.{Numbers}

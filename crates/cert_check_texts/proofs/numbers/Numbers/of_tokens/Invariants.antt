@@ -1,6 +1,6 @@
 use Rattle.std.specs.Prelude.{map}
 use Rattle.lexer.specs.Tokens.{token_of}
-use Rattle.token_laws.specs.Spelling.{spelling_at}
+use Rattle.token_print.specs.Spelling.{spelling_at}
 use Rattle.cert_check_texts.specs.inner.Numbers.{HasNumbers}
 use Rattle.cert_check_texts.proofs.numbers.Numbers.of_tokens.Given as goal
 

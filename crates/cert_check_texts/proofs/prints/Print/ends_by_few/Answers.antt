@@ -1,6 +1,6 @@
 use Rattle.std.proofs.Common.{List, map, subst}
 use Rattle.lexer.specs.Tokens.{token_of}
-use Rattle.token_laws.specs.Spelling.{spelling}
+use Rattle.token_print.specs.Spelling.{spelling}
 use Rattle.cert_check_texts.specs.declared.reached.Reached.{Reached}
 use Rattle.cert_check_texts.specs.inner.Print.{SomeCanEnd}
 use Rattle.cert_check_texts.proofs.Steps.{few_all, few_next}

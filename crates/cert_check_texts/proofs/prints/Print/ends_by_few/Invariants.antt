@@ -1,6 +1,6 @@
 use Rattle.std.specs.Prelude.{drop, map}
 use Rattle.lexer.specs.Tokens.{token_of}
-use Rattle.token_laws.specs.Spelling.{spelling}
+use Rattle.token_print.specs.Spelling.{spelling}
 use Rattle.cert_check_texts.specs.inner.Print.{SomeCanEnd}
 use Rattle.cert_check_texts.proofs.prints.Print.ends_by_few.Given as goal
 

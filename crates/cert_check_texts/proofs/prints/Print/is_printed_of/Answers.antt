@@ -4,8 +4,8 @@ use Rattle.std.proofs.lemmas.List.{nil_from_length}
 use Rattle.std.proofs.lemmas.List.Elements.{All-head, All-tail}
 use Rattle.lexer.specs.Tokens.{token_of}
 use Rattle.lexer.specs.declared.token.Token.{Token}
-use Rattle.token_laws.specs.Laws.{IsSlice}
-use Rattle.token_laws.specs.Spelling.{spelling}
+use Rattle.token_print.specs.LexingLaws.{IsSlice}
+use Rattle.token_print.specs.Spelling.{spelling}
 use Rattle.cert_check_texts.specs.inner.Print.{CanEnd}
 use Rattle.cert_check_texts.proofs.Language.{answered}
 use Rattle.cert_check_texts.proofs.Steps.{from_first}

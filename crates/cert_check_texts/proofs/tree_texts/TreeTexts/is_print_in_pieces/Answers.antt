@@ -4,8 +4,8 @@ use Rattle.std.specs.Prelude.{◌↔◌, IfOk, IsTrue}
 use Rattle.lexer.specs.Tokens.{token_of}
 use Rattle.lexer.specs.declared.token.Token.{Token}
 use denote.Ref.{Bor}
-use Rattle.token_laws.specs.Laws.{IsSlice}
-use Rattle.token_laws.specs.Spelling.{spelling_at}
+use Rattle.token_print.specs.LexingLaws.{IsSlice}
+use Rattle.token_print.specs.Spelling.{spelling_at}
 use Rattle.cert_check_texts.specs.Texts.{IsPrintOf, TreeStart}
 use Rattle.cert_check_texts.specs.inner.Numbers.{HasNumbers}
 use Rattle.cert_check_texts.specs.inner.Reached.{AreSeparators}

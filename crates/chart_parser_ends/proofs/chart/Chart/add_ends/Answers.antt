@@ -1,5 +1,5 @@
 use Rattle.std.proofs.lemmas.Result.{on_ok_weaker}
-use Rattle.normal_form_spans.specs.Spans.{DerivesSpan}
+use Rattle.normal_form.specs.Spans.{DerivesSpan}
 use Rattle.chart_parser_ends.proofs.Greatest.{all_up_to, grown_up_to}
 use Rattle.chart_parser_ends.proofs.SymbolEnds.{looked_up, worked_out}
 use Rattle.chart_parser_ends.proofs.chart.Chart.add_ends.Goals as goal

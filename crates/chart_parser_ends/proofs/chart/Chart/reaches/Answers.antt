@@ -1,4 +1,4 @@
-use Rattle.normal_form_spans.specs.Spans.{DerivesSpan}
+use Rattle.normal_form.specs.Spans.{DerivesSpan}
 use Rattle.chart_parser_ends.proofs.Exactly.{has_exactly}
 use Rattle.chart_parser_ends.proofs.SymbolEnds.{looked_up, worked_out}
 use Rattle.chart_parser_ends.proofs.chart.Chart.reaches.Goals as goal

@@ -1,6 +1,6 @@
 use Rattle.std.proofs.Common.{◌≡◌, ◌+◌, ◌-◌, ◌≤◌, true, false, length, [], take, drop, sym, ap, ◌∙◌, subst, arith}
 use Rattle.normal_form.specs.declared.normal.Sym.TheVariants.{Rule}
-use Rattle.normal_form_spans.specs.Spans.{DerivesSpan}
+use Rattle.normal_form.specs.Spans.{DerivesSpan}
 use Rattle.chart_parser_ends.specs.inner.Firsts.{AreFirsts, MayBeEmpty}
 use Rattle.chart_parser_ends.specs.Positions.{HasExactly}
 use Rattle.chart_parser_ends.proofs.FirstKinds.{here_exact, left_out_here, none_exact}

@@ -1,6 +1,6 @@
 use Rattle.std.proofs.Common.{subst}
 use Rattle.normal_form.specs.declared.normal.Sym.TheVariants.{Rule}
-use Rattle.normal_form_spans.specs.Spans.{DerivesSpan}
+use Rattle.normal_form.specs.Spans.{DerivesSpan}
 use Rattle.chart_parser_ends.specs.Positions.{HasExactly}
 use Rattle.chart_parser_ends.proofs.SymbolEnds.{entry_exact}
 use Rattle.chart_parser_ends.proofs.table.ChartTable.rule_ends.Goals as goal

@@ -1,7 +1,7 @@
 use Rattle.std.proofs.Common.{◌++◌, ◌∷◌, [], ap, ◌∙◌, sym, subst}
 use Rattle.std.proofs.lemmas.Result.{on_err_weaker, on_ok_weaker}
 use Rattle.normal_form.specs.declared.normal.Sym.TheVariants.{Rule}
-use Rattle.normal_form_spans.specs.Spans.{DerivesSpan}
+use Rattle.normal_form.specs.Spans.{DerivesSpan}
 use Rattle.chart_parser_ends.specs.inner.Entries.{entry}
 use Rattle.chart_parser_ends.specs.inner.Filled.{Filled}
 use Rattle.chart_parser_ends.specs.Positions.{HasExactly}

@@ -1,5 +1,5 @@
 use Rattle.std.proofs.Common.{◌≡◌, ◌+◌, ◌-◌, ◌<◌, true, false, length, [], take, drop, get_or, sym, ap, ◌∙◌, subst, arith}
-use Rattle.normal_form_spans.specs.Spans.{DerivesSpan}
+use Rattle.normal_form.specs.Spans.{DerivesSpan}
 use Rattle.chart_parser_ends.specs.inner.Exact.{IsTokenOf}
 use Rattle.chart_parser_ends.specs.Positions.{HasExactly}
 use Rattle.chart_parser_ends.proofs.AllPositions.{one_position}

@@ -1,6 +1,6 @@
 use Rattle.std.proofs.Common.{◌≡◌, ◌≤◌, ◌+◌, ◌-◌, ◌↔◌, length}
 use Rattle.std.specs.Str.{IsCharBoundary}
-use Rattle.token_laws.specs.Spells.{SpellsTokens}
+use Rattle.token_print.specs.Spells.{SpellsTokens}
 use Rattle.spell_shrink.specs.inner.Rereads.{HasRest, expected_pieces}
 use Rattle.spell_shrink.proofs.reading.Reread.keeps.Given as goal
 

@@ -4,7 +4,7 @@ use Rattle.std.proofs.Props.{props}
 use Rattle.std.specs.Prelude.{OnErr, OnOk, if◌then◌else◌, slice_index_or}
 use Rattle.grammar_tree.specs.Lexes.{PlacedToken}
 use Rattle.grammar_tree.specs.Written.{CheckedGrammar}
-use Rattle.token_laws.specs.Readings.{SpelledAreFound}
+use Rattle.token_print.specs.Readings.{SpelledAreFound}
 use Rattle.token_print.specs.declared.style.Skips.{Skips}
 use Rattle.token_print.specs.declared.style.Style.{Style}
 use Rattle.reduce_rounds.specs.Trials.{trials_after}

@@ -5,7 +5,7 @@ use Rattle.std.specs.Prelude.{MatchOption}
 use Rattle.std.proofs.lemmas.Str.{IsCharBoundary-start}
 use Rattle.grammar_tree.specs.Written.{WrittenGrammar}
 use Rattle.lexer.specs.Tokens.{token_of}
-use Rattle.token_laws.specs.Laws.{AreInOrder}
+use Rattle.token_print.specs.LexingLaws.{AreInOrder}
 use Rattle.token_print.specs.declared.joins.Progress.{Progress}
 use Rattle.token_print.specs.declared.layout.Layout.{Layout}
 use Rattle.token_print.specs.declared.runs.Run.{Run}

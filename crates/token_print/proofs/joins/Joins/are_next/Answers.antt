@@ -2,7 +2,7 @@ use Rattle.std.proofs.Common.{◌≡◌, ◌<◌, ◌+◌, ◌-◌, ◌∙◌, l
 use Rattle.std.specs.List.{between}
 use Rattle.std.proofs.lemmas.List.{length-drop, length-take}
 use Rattle.lexer.specs.Tokens.{token_of}
-use Rattle.token_laws.specs.Spelling.{kind_and_spelling}
+use Rattle.token_print.specs.Spelling.{kind_and_spelling}
 use Rattle.token_print.proofs.SpelledNext.{all_part, kept_there, next_few, next_no, next_yes, rising_part, words_size}
 use Rattle.token_print.proofs.joins.Joins.are_next.Goals as goal
 

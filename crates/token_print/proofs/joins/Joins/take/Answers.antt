@@ -1,6 +1,6 @@
 use Rattle.std.proofs.Common.{◌∙◌, slice_index, refl, sym, arith, true≢false}
 use Rattle.lexer.specs.Tokens.{token_of}
-use Rattle.token_laws.specs.Spelling.{kind_and_spelling}
+use Rattle.token_print.specs.Spelling.{kind_and_spelling}
 use Rattle.token_print.proofs.Offsets as offsets
 use Rattle.token_print.proofs.SpelledNext.{kept_there, next_is, next_other, none_next}
 use Rattle.token_print.proofs.joins.Joins.take.Goals as goal

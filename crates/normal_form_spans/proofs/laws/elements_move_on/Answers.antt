@@ -1,5 +1,0 @@
-use Rattle.normal_form_spans.proofs.Elements as lemma
-use Rattle.normal_form_spans.proofs.laws.elements_move_on.Goals as goal
-
-pub returns : goal.returns
-returns c = lemma.elements_move_on c.elements_are_not_empty.ensures

@@ -1,5 +1,0 @@
-mod NamedSets
-mod Replaced
-mod RuleSteps
-mod TermRules
-pub mod Lent
