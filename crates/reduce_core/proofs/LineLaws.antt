@@ -5,10 +5,9 @@ use Rattle.list_ddmin.specs.ListStep.{kept_of}
 use Rattle.list_ddmin.specs.Machine.{start as list_start}
 use Rattle.list_ddmin.specs.Asked.{KeepsFewer, KeepsOnlyOf}
 use Rattle.list_ddmin.proofs.Lent.{length-kept_of as count-kept_of}
-use Rattle.reduce_rounds.specs.Trials.{EachIsSmaller, IsTriedAtNo}
+use Rattle.reduce_rounds.specs.Trials.{EachIsSmaller, IsTriedAtNo, Done}
 use Rattle.reduce_rounds.specs.Mode.{IsLawful, Keeps, TriesEdits}
-use Rattle.reduce_list_trials.proofs.Lent.{becomes_smaller, tries_selections, tries_deletions}
-use Rattle.reduce_rounds.specs.Trials.{Done}
+use Rattle.reduce_rounds.proofs.Lent.{becomes_smaller, tries_selections, tries_deletions}
 use Rattle.reduce_core.specs.declared.lines.Line.{Line}
 use Rattle.reduce_core.specs.Lines.{numbered_lines}
 use Rattle.reduce_core.specs.Candidates.{IsLineEdit}

@@ -7,7 +7,7 @@ use Rattle.reduce_rounds.specs.Mode.{IsLawful, Keeps}
 use Rattle.reduce_rounds.specs.Reduction.{RoundEnd, after_round, end_at, next_rounds, rounds_of}
 use Rattle.reduce_rounds.specs.ByTrials.{recursion_of, round_of, trials_end}
 use Rattle.reduce_rounds.proofs.Lent.{goes_by_its_rounds, same_without_yes, smaller_after_yes, all_rounds_same, recursions_reduce_alike}
-use Rattle.reduce_list_trials.proofs.Lent.{ends_as_list_step, tries_selections}
+use Rattle.reduce_rounds.proofs.Lent.{ends_as_list_step, tries_selections}
 use Rattle.reduce_core.specs.declared.lines.Line.{Line}
 use Rattle.reduce_core.specs.Lines.{numbered_lines}
 use Rattle.reduce_core.specs.LineMode.{LineInput, line_mode, line_trials}

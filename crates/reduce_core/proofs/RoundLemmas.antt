@@ -10,7 +10,7 @@ use Rattle.list_ddmin.proofs.Lent as list_follows
 use Rattle.reduce_step.specs.Limits.{text_limit}
 use Rattle.reduce_rounds.specs.Trials.{Done, Try, is_done, state_after, tried_state, trials_after}
 use Rattle.reduce_rounds.specs.Fields.{listed_text, text_if}
-use Rattle.reduce_list_trials.proofs.Lent.{at_end, at_question, by_asked}
+use Rattle.reduce_rounds.proofs.Lent.{at_end, at_question, by_asked}
 use Rattle.reduce_core.specs.declared.lines.Line.{Line}
 use Rattle.reduce_core.specs.declared.line_round.Question.{Question}
 use Rattle.reduce_core.specs.Reduction.{Admits}

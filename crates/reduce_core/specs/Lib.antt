@@ -1,7 +1,7 @@
 pub use Rattle.reduce_step.specs.Plan
 pub use Rattle.list_ddmin.specs.ListStep
 pub use Rattle.reduce_rounds.specs as ReduceRounds
-pub use Rattle.reduce_list_trials.specs.ListTrials
+pub use Rattle.reduce_rounds.specs.ListTrials
 pub mod Lines
 pub mod Reduction
 pub mod Candidates

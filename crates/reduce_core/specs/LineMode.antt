@@ -6,7 +6,7 @@ use Rattle.list_ddmin.specs.Machine.{State, start as list_start}
 use Rattle.reduce_rounds.specs.Trials.{Trials, Done}
 use Rattle.reduce_rounds.specs.Mode.{RoundMode}
 use Rattle.reduce_rounds.specs.RoundsPlan.{plan_first}
-use Rattle.reduce_list_trials.specs.ListTrials.{list_trials}
+use Rattle.reduce_rounds.specs.ListTrials.{list_trials}
 use Rattle.reduce_core.specs.declared.lines.Line.{Line}
 use Rattle.reduce_core.specs.Lines.{numbered_lines, text_of}
 use Rattle.reduce_core.specs.Reduction.{Admits, is_listed}

@@ -4,7 +4,7 @@ use Rattle.std.specs.Prelude.{ℕ, Bool, true, List, None, length}
 use Rattle.list_ddmin.specs.ListStep.{Outcome, kept_of, list_step}
 use Rattle.reduce_rounds.specs.StateTexts.{StateTexts}
 use Rattle.reduce_rounds.specs.Reduction.{Recursion, RoundEnd, end_at}
-use Rattle.reduce_list_trials.specs.ListEnd.{after_step, keep_verdict}
+use Rattle.reduce_rounds.specs.ListEnd.{after_step, keep_verdict}
 use Rattle.reduce_core.specs.declared.lines.Line.{Line}
 use Rattle.reduce_core.specs.Lines.{numbered_lines, numbers_of, text_of}
 

@@ -12,9 +12,9 @@ use Rattle.syntax_tree.specs.Levels.{depth}
 use Rattle.hdd_levels.specs.Levels.{fills_pluses, is_so_deep, kept_tree}
 use Rattle.hdd_levels.specs.LevelForms.{IsLevelAt, IsLevelIfDeep, LevelForm, parents_at}
 use Rattle.hdd_levels.specs.Laws.{KeepingAllKeepsTree, ValidTreesFillPluses}
-use Rattle.reduce_hdd_trials.specs.Allowed.{allowed_trials}
-use Rattle.reduce_hdd_trials.specs.Round.{level_tried, levels, levels_from}
-use Rattle.reduce_hdd_trials.proofs.Lent.{goes_by_levels}
+use Rattle.reduce_hdd.specs.Allowed.{allowed_trials}
+use Rattle.reduce_hdd.specs.Round.{level_tried, levels, levels_from}
+use Rattle.reduce_hdd.proofs.Going.{goes_by_levels}
 use Rattle.reduce_hdd.specs.inner.Passing.{HasPassed, allowed_from}
 use Rattle.reduce_hdd.specs.inner.Walking.{IsAskingStep, levels_below, step_trials}
 use Rattle.reduce_hdd.proofs.Passed.{goes_on_at_end, passing_length}

@@ -1,3 +1,11 @@
+mod AllowedTrials
+mod KeptDepth
+mod Lighter
+mod Going
+mod Rounds
+mod KeptLevels
+mod Following
+mod WorkedLemmas
 mod Bounds
 mod Passed
 mod Steps

@@ -7,11 +7,11 @@ use Rattle.normal_form.specs.Form.{NormalForm}
 use Rattle.list_ddmin.specs.Machine.{State, IsSound, asks, after, kept, left}
 use Rattle.list_ddmin.proofs.Lent.{IsSound-after}
 use Rattle.reduce_rounds.specs.Trials.{Trials, Try, state_after, tried_state, trials_after}
-use Rattle.reduce_list_trials.proofs.Lent.{at_end, fewer_left, kept_at_no, kept_at_yes}
+use Rattle.reduce_rounds.proofs.Lent.{at_end, fewer_left, kept_at_no, kept_at_yes}
 use Rattle.syntax_tree.specs.Trees.{PlainTree}
 use Rattle.hdd_levels.specs.Levels.{fills_pluses, kept_tree}
-use Rattle.reduce_hdd_trials.specs.Allowed.{allowed_trials}
-use Rattle.reduce_hdd_trials.proofs.Lent.{allowed_question, passed_question}
+use Rattle.reduce_hdd.specs.Allowed.{allowed_trials}
+use Rattle.reduce_hdd.proofs.AllowedTrials.{allowed_question, passed_question}
 use Rattle.reduce_hdd.specs.inner.Passing.{HasPassed, IsPassing, allowed_from, refuses}
 
 module _ (N : NormalForm) (t : PlainTree) (nodes : List ℕ) where

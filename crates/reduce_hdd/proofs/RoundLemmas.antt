@@ -1,5 +1,5 @@
 -- What rounds of mode `hdd` owe to reductions.
-use Rattle.reduce_hdd_trials.specs.Laws.{LosesLeaves, TriesKeptTrees, TriesSingleDeletions}
+use Rattle.reduce_hdd.specs.Laws.{LosesLeaves, TriesKeptTrees, TriesSingleDeletions}
 use Rattle.reduce_walk.specs.Rounds.{RoundsKeepTrees, RoundsLoseLeaves, RoundsTryEdits}
 use Rattle.reduce_hdd.specs.LevelRounds.{IsDeletion, level_round}
 

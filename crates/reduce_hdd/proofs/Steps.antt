@@ -15,7 +15,7 @@ use Rattle.syntax_tree.specs.LeftLaws.{LeftIsTransitive}
 use Rattle.hdd_levels.specs.Levels.{fills_pluses, kept_only, kept_tree, level}
 use Rattle.hdd_levels.specs.LevelForms.{parents_at}
 use Rattle.hdd_levels.specs.Laws.{HigherNodesStay, KeptTreesAreLeft, KeptTreesAreTrees}
-use Rattle.reduce_hdd_trials.specs.Round.{levels_from}
+use Rattle.reduce_hdd.specs.Round.{levels_from}
 use Rattle.reduce_hdd.specs.declared.level_step.LevelStep.{LevelStep}
 use Rattle.reduce_hdd.specs.inner.Passing.{HasPassed}
 use Rattle.reduce_hdd.specs.inner.Walking.{IsAskingStep, IsLevelStep, levels_below, step_left, step_trials}

@@ -4,7 +4,7 @@ use Rattle.normal_form.specs.Form.{NormalForm}
 use Rattle.reduce_rounds.specs.Trials.{Trials}
 use Rattle.syntax_tree.specs.Trees.{PlainTree}
 use Rattle.syntax_tree.specs.Edits.{IsSingleDeletion}
-use Rattle.reduce_hdd_trials.specs.Round.{levels}
+use Rattle.reduce_hdd.specs.Round.{levels}
 
 -- it goes through the levels of the tree, whichever symbol the tree is for
 abbrev pub level_round : NormalForm → Sym → PlainTree → Trials PlainTree

@@ -4,7 +4,7 @@ ghost use Rattle.std.specs.Prelude.{◌≡◌, suc, IfOk};
 ghost use Rattle.reduce_rounds.specs.Trials.{state_after, trials_after};
 ghost use Rattle.syntax_tree_cut.specs.Cuts.{IsCutOf, cut_tree};
 ghost use Rattle.hdd_levels.specs.LevelForms.{parents_at};
-ghost use Rattle.reduce_hdd_trials.specs.Round.{levels};
+ghost use Rattle.reduce_hdd.specs.Round.{levels};
 ghost use Rattle.reduce_hdd.specs.inner.Walking.{IsAskingStep, IsWalking, levels_below, step_left, step_trials, trials_within, tree_left};
 
 use crate::level_step::{LevelStep, pass_refused, settle};

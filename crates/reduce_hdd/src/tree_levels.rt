@@ -7,10 +7,10 @@ ghost use Rattle.reduce_walk.specs.Rounds.{RoundsKeepTrees, RoundsLoseLeaves, Ro
 ghost use Rattle.reduce_hdd.specs.LevelRounds.{IsDeletion, level_round};
 
 use crate::descent::{after_answer, first_step};
+use crate::laws::{loses_leaves, tries_kept_trees, tries_single_deletions};
 use crate::level_step::{LevelStep, copy_of, settle_last, tried_cut};
 use faults::Memory;
 use hdd_levels::{kept_trees_are_left, kept_trees_are_trees};
-use reduce_hdd_trials::{loses_leaves, tries_kept_trees, tries_single_deletions};
 use reduce_walk::TreeWalk;
 use std::alloc::Global;
 use std::marker::Model;

@@ -7,7 +7,7 @@ use Rattle.reduce_rounds.specs.Trials.{Try, state_after, trials_after}
 use Rattle.syntax_tree.specs.Trees.{PlainTree, PlainTrees}
 use Rattle.syntax_tree.specs.Numbered.{with_subtree}
 use Rattle.syntax_tree_cut.specs.Cuts.{CanEmpty}
-use Rattle.reduce_perses_trials.specs.Queued.{with_trees}
+use Rattle.reduce_perses.specs.Queued.{with_trees}
 use Rattle.reduce_perses.specs.declared.visit.Visit.TheVariants.{Content}
 use Rattle.reduce_perses.specs.inner.VisitTrials.{content_tried, goes_on, visit_trials}
 use Rattle.reduce_perses.specs.inner.Visiting.{GoesOnWith, IsContent}

@@ -18,10 +18,11 @@ use Rattle.syntax_tree.proofs.Lent.{within_from, is_found, have_slots, root_foun
 use Rattle.syntax_tree_cut.specs.Cuts.{CanReplace}
 use Rattle.descend_replace.specs.Compatible.{compatible}
 use Rattle.descend_replace.proofs.Lent.{decides, below_found}
-use Rattle.reduce_perses_trials.specs.Queued.{IsInRound, nodes_in, with_trees}
-use Rattle.reduce_perses_trials.specs.Visit.{each_tried, form_visited, node_visited}
-use Rattle.reduce_perses_trials.specs.Laws.{GoesOn}
-use Rattle.reduce_perses_trials.proofs.Lent.{IsCompatible, all_compatible, is_some, node_rises}
+use Rattle.reduce_perses.specs.Queued.{IsInRound, nodes_in, with_trees}
+use Rattle.reduce_perses.specs.Visit.{each_tried, form_visited, node_visited}
+use Rattle.reduce_perses.specs.Laws.{GoesOn}
+use Rattle.reduce_perses.proofs.Descending.{IsCompatible, all_compatible}
+use Rattle.reduce_perses.proofs.NodeFacts.{is_some, node_rises}
 use Rattle.reduce_perses.specs.declared.visit.Visit.{Visit}
 use Rattle.descend_replace.specs.FitsIn.{fits_in}
 use Rattle.reduce_perses.specs.inner.VisitTrials.{descendants_tried, goes_on}

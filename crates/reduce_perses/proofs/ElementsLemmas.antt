@@ -14,10 +14,10 @@ use Rattle.list_ddmin.specs.Machine.{State, after, asks, kept, start}
 use Rattle.list_ddmin.proofs.Lent.{IsSound-after, IsSound-start, kept_count-all, keeps_all_at_first, keeps_length, starts_with_all}
 use Rattle.node_queue.specs.Waiting.{Waiting}
 use Rattle.reduce_rounds.specs.Trials.{Trials, Try, state_after, tried_state, trials_after}
-use Rattle.reduce_list_trials.specs.ListTrials.{list_trials}
-use Rattle.reduce_list_trials.specs.Selections.{IsRemainder}
-use Rattle.reduce_list_trials.specs.inner.Selections.{IsRemainderAt}
-use Rattle.reduce_list_trials.proofs.Lent.{at_end, at_question, kept_at_no, kept_at_yes, remainder-after, remainder-start, selection-asked}
+use Rattle.reduce_rounds.specs.ListTrials.{list_trials}
+use Rattle.reduce_rounds.specs.Selections.{IsRemainder}
+use Rattle.reduce_rounds.specs.inner.Selections.{IsRemainderAt}
+use Rattle.reduce_rounds.proofs.Lent.{at_end, at_question, kept_at_no, kept_at_yes, remainder-after, remainder-start, selection-asked}
 use Rattle.syntax_tree.specs.Trees.{PlainTree, PlainTrees, children_of, count, weight_all}
 use Rattle.syntax_tree.specs.Numbered.{number_of, roots, subtree, subtree_among, with_subtree}
 use Rattle.syntax_tree.specs.Valid.{slot_at}
@@ -27,10 +27,12 @@ use Rattle.syntax_tree.proofs.Lent.{AreWithin, IsWithin, bounds, root_found, sel
 use Rattle.syntax_tree_cut.specs.Cuts.{CanSelect, CutForm, HasChildren, IsCutOf, cut_tree}
 use Rattle.syntax_tree_cut.proofs.Lent.{some_of}
 use Rattle.descend_replace.proofs.Lent.{children_are, cut_rises, left_node}
-use Rattle.reduce_perses_trials.specs.Queued.{IsInRound, with_trees}
-use Rattle.reduce_perses_trials.specs.Visit.{form_visited, list_visited, node_visited}
-use Rattle.reduce_perses_trials.specs.Laws.{GoesOn, IsNextVisit}
-use Rattle.reduce_perses_trials.proofs.Lent.{child_found, children_within, first_found, later_found, node_deeper, node_rises, selected_all, same_with}
+use Rattle.reduce_perses.specs.Queued.{IsInRound, with_trees}
+use Rattle.reduce_perses.specs.Visit.{form_visited, list_visited, node_visited}
+use Rattle.reduce_perses.specs.Laws.{GoesOn, IsNextVisit}
+use Rattle.reduce_perses.proofs.NodeFacts.{child_found, children_within, first_found, later_found, node_deeper, node_rises}
+use Rattle.reduce_perses.proofs.Selecting.{selected_all}
+use Rattle.reduce_perses.proofs.Visits.{same_with}
 use Rattle.reduce_perses.specs.declared.visit.Visit.{Visit}
 use Rattle.reduce_perses.specs.declared.visit.Visit.TheVariants.{Elements}
 use Rattle.descend_replace.specs.FitsIn.{fits_in}

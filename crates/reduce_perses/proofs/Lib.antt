@@ -1,3 +1,16 @@
+mod NodeFacts
+mod Queues
+mod Selecting
+mod Descending
+mod Visits
+mod Forms
+mod Going
+mod Ending
+mod Tried
+mod Following
+mod AtNo
+mod Rounds
+mod WorkedLemmas
 mod WaitingLemmas
 mod ElementsLemmas
 mod DescendantsLemmas

@@ -13,10 +13,11 @@ use Rattle.syntax_tree_cut.specs.declared.shape.Shape.{Shape}
 use Rattle.syntax_tree_cut.specs.declared.shape.Shape.TheVariants.{Optional}
 use Rattle.syntax_tree_cut.specs.Shapes.{shape_of, shape_of_form}
 use Rattle.reduce_rounds.specs.Trials.{Done}
-use Rattle.reduce_perses_trials.specs.Queued.{IsInRound, nodes_in, with_trees}
-use Rattle.reduce_perses_trials.specs.Visit.{form_visited, node_visited}
-use Rattle.reduce_perses_trials.specs.Laws.{IsNextVisit}
-use Rattle.reduce_perses_trials.proofs.Lent.{optional_form, round_begins, rounds_go_by_visits, visits_go_on}
+use Rattle.reduce_perses.specs.Queued.{IsInRound, nodes_in, with_trees}
+use Rattle.reduce_perses.specs.Visit.{form_visited, node_visited}
+use Rattle.reduce_perses.specs.Laws.{IsNextVisit}
+use Rattle.reduce_perses.proofs.Forms.{optional_form}
+use Rattle.reduce_perses.proofs.Rounds.{round_begins, rounds_go_by_visits, visits_go_on}
 use Rattle.reduce_perses.specs.declared.visit.Visit.{Visit}
 use Rattle.reduce_perses.specs.declared.visit.Visit.TheVariants.{Content}
 use Rattle.descend_replace.specs.FitsIn.{fits_in}

@@ -1,7 +1,7 @@
 -- What the rounds of mode `perses` owe, since which symbols fit which slots is decided.
 use Rattle.descend_replace.proofs.Lent.{decides}
 use Rattle.syntax_tree.specs.Edits.{IsSingleEdit}
-use Rattle.reduce_perses_trials.specs.Laws.{LosesLeaves, TriesKeptTrees, TriesSingleEdits}
+use Rattle.reduce_perses.specs.Laws.{LosesLeaves, TriesKeptTrees, TriesSingleEdits}
 use Rattle.reduce_walk.specs.Rounds.{RoundsKeepTrees, RoundsLoseLeaves, RoundsTryEdits}
 use Rattle.descend_replace.specs.FitsIn.{fits_in}
 use Rattle.reduce_perses.specs.VisitRounds.{visit_round}

@@ -9,7 +9,7 @@ use Rattle.normal_form.specs.Form.{NormalForm}
 use Rattle.list_ddmin.specs.Machine.{State, asks}
 use Rattle.node_queue.specs.Waiting.{Waiting}
 use Rattle.reduce_rounds.specs.Trials.{Trials, Done, Try, is_done, tried_state}
-use Rattle.reduce_list_trials.proofs.Lent.{by_asked, selection-asked}
+use Rattle.reduce_rounds.proofs.Lent.{by_asked, selection-asked}
 use Rattle.syntax_tree.specs.Trees.{PlainTree}
 use Rattle.syntax_tree.specs.Valid.{IsTreeFor}
 use Rattle.syntax_tree.specs.Numbered.{subtree, with_subtree}
@@ -18,8 +18,8 @@ use Rattle.syntax_tree.specs.Left.{IsRemainderOf, selected_trees}
 use Rattle.syntax_tree.proofs.Lent.{transitive}
 use Rattle.syntax_tree_cut.specs.Cuts.{CanSelect, CutForm, HasChildren, cut_tree}
 use Rattle.syntax_tree_cut.proofs.Lent.{some_of}
-use Rattle.reduce_perses_trials.specs.Queued.{IsKeptTree}
-use Rattle.reduce_perses_trials.specs.Laws.{GoesOn}
+use Rattle.reduce_perses.specs.Queued.{IsKeptTree}
+use Rattle.reduce_perses.specs.Laws.{GoesOn}
 use Rattle.reduce_perses.specs.declared.visit.Visit.{Visit}
 use Rattle.reduce_perses.specs.declared.visit.Visit.TheVariants.{Elements, Content, Descendants}
 use Rattle.reduce_perses.specs.inner.VisitTrials.{content_tried, elements_tried, trials_within, tree_left, visit_trials}

@@ -15,8 +15,9 @@ use Rattle.syntax_tree_cut.specs.declared.shape.Shape.{Shape}
 use Rattle.syntax_tree_cut.specs.declared.shape.Shape.TheVariants.{Leaf, Star, Plus, Optional, Regular}
 use Rattle.syntax_tree_cut.specs.Shapes.{shape_of}
 use Rattle.syntax_tree_cut.proofs.Lent.{when_equal, when_not}
-use Rattle.reduce_perses_trials.specs.Queued.{first_token, nodes_in, waiting_of, waits, with_trees}
-use Rattle.reduce_perses_trials.proofs.Lent.{child_found, children_within, first_found, is_some, later_found, node_deeper, node_rises, nodes_more}
+use Rattle.reduce_perses.specs.Queued.{first_token, nodes_in, waiting_of, waits, with_trees}
+use Rattle.reduce_perses.proofs.NodeFacts.{child_found, children_within, first_found, is_some, later_found, node_deeper, node_rises}
+use Rattle.reduce_perses.proofs.Queues.{nodes_more}
 use Rattle.reduce_perses.specs.inner.Visiting.{size_at}
 
 -- what has no leaf's shape and has a leaf waits

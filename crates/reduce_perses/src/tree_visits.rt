@@ -7,12 +7,12 @@ ghost use Rattle.syntax_tree_cut.specs.Cuts.{IsCutOf, cut_tree};
 ghost use Rattle.reduce_perses.specs.inner.Visiting.{IsGoing, IsVisiting};
 ghost use Rattle.reduce_perses.specs.inner.VisitTrials.{tree_left, trials_from, trials_within};
 
+use crate::laws::{loses_leaves, tries_kept_trees, tries_single_edits};
 use crate::visit::{Visit, after_answer, copy_of, next_visit, settle, tried_cut};
 use crate::waiting::push_if_waiting;
 use compat_table::Compat;
 use faults::Memory;
 use node_queue::Queue;
-use reduce_perses_trials::{loses_leaves, tries_kept_trees, tries_single_edits};
 use reduce_walk::TreeWalk;
 use std::alloc::Global;
 use std::marker::Model;

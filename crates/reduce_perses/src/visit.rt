@@ -7,7 +7,7 @@ ghost use Rattle.normal_form.specs.Form.{NormalForm};
 ghost use Rattle.reduce_rounds.specs.Trials.{state_after, tried_state, trials_after};
 ghost use Rattle.syntax_tree.specs.Trees.{PlainTree};
 ghost use Rattle.syntax_tree_cut.specs.Cuts.{IsCutOf, cut_tree};
-ghost use Rattle.reduce_perses_trials.specs.Queued.{IsInRound};
+ghost use Rattle.reduce_perses.specs.Queued.{IsInRound};
 ghost use Rattle.reduce_perses.specs.inner.VisitTrials.{goes_on, tree_left, tree_within, trials_within, visit_trials};
 ghost use Rattle.reduce_perses.specs.inner.Visiting.{AreCopies, IsTaken, IsVisit, IsVisiting, node_trials, GoesOnWith, HasFewer};
 

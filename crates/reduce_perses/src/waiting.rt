@@ -4,7 +4,7 @@ ghost use Rattle.std.specs.Prelude.{◌≡◌, Some, IsSome, OnOk};
 ghost use Rattle.syntax_tree.specs.Trees.{PlainTree, PlainTrees, children_of};
 ghost use Rattle.syntax_tree.specs.Numbered.{subtree};
 ghost use Rattle.syntax_tree_cut.specs.Cuts.{IsCutOf, cut_tree};
-ghost use Rattle.reduce_perses_trials.specs.Queued.{with_trees};
+ghost use Rattle.reduce_perses.specs.Queued.{with_trees};
 
 use faults::Memory;
 use node_queue::Queue;

@@ -9,4 +9,11 @@ mod Agreement
 mod LookingAhead
 mod FieldLemmas
 mod ShownLemmas
+mod GoesOn
+mod Steps
+mod Tried
+mod AtNo
+mod ListEnds
+mod ListFollows
+mod WorkedLemmas
 pub mod Lent

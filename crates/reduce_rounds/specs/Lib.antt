@@ -12,4 +12,9 @@ pub mod RoundsPlan
 pub mod Shown
 pub mod Laws
 pub mod Fields
+pub mod ListTrials
+pub mod Selections
+pub mod ListEnd
+pub mod ListLaws
+pub mod Worked
 pub mod inner

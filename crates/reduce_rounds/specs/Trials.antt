@@ -40,3 +40,8 @@ AllTried P (Try other at_yes at_no) = P other × (AllTried P at_yes × AllTried 
 abbrev pub IsTriedAtNo : {T : Type 0} → Trials T → T → Type 0
 IsTriedAtNo Done state = ⊥
 IsTriedAtNo (Try other at_yes at_no) state = (other ≡ state) ⊎ IsTriedAtNo at_no state
+
+-- R holds of the last state that had a yes, at first this one, and each that is tried after it.
+abbrev pub EachFollows : {T : Type 0} → (T → T → Type 0) → T → Trials T → Type 0
+EachFollows R state Done = Unit {0}
+EachFollows R state (Try other at_yes at_no) = R state other × (EachFollows R other at_yes × EachFollows R state at_no)

@@ -1,6 +1,6 @@
 -- A round of mode `hdd` is the recursion that goes level after level.
 use Rattle.std.proofs.Common.{◌∙◌, ap}
-use Rattle.reduce_hdd_trials.specs.Laws.{EndsByLevels}
+use Rattle.reduce_hdd.specs.Laws.{EndsByLevels}
 use Rattle.reduce_hdd.specs.LevelRounds.{level_round}
 use Rattle.reduce_trees_mode.specs.Laws.{RoundsKeepStyle}
 use Rattle.reduce_trees_mode.specs.InStyles.{end_in, trees_in}

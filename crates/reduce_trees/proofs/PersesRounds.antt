@@ -5,7 +5,7 @@ use Rattle.syntax_tree.specs.NodeLaws.{WholeTreesRise}
 use Rattle.syntax_tree.specs.LeftLaws.{LeftIsPart}
 use Rattle.reduce_trees_mode.specs.Laws.{RoundsKeepStyle}
 use Rattle.reduce_trees_mode.specs.InStyles.{end_in, trees_in}
-use Rattle.reduce_perses_trials.specs.Laws.{RoundsEndByVisits}
+use Rattle.reduce_perses.specs.Laws.{RoundsEndByVisits}
 use Rattle.descend_replace.specs.FitsIn.{fits_in}
 use Rattle.reduce_perses.specs.VisitRounds.{visit_round}
 use Rattle.reduce_trees.specs.Laws.{PersesRoundsAreVisits}

@@ -11,8 +11,8 @@ use Rattle.reduce_trees_mode.specs.Input.{IsInput, TreeInput, TreeState}
 use Rattle.reduce_trees_mode.specs.Listed.{IsKept}
 use Rattle.reduce_step.specs.declared.mode.TreeMode.{TreeMode}
 use Rattle.reduce_trees_mode.specs.InStyles.{IsEditIn, end_in, tree_recursion, trees_in}
-use Rattle.reduce_hdd_trials.specs.Followed.{levels_end}
-use Rattle.reduce_perses_trials.specs.VisitEnd.{visit_end}
+use Rattle.reduce_hdd.specs.Followed.{levels_end}
+use Rattle.reduce_perses.specs.VisitEnd.{visit_end}
 use Rattle.descend_replace.specs.FitsIn.{fits_in}
 use Rattle.reduce_trees.specs.HddMode.{hdd_mode}
 use Rattle.reduce_trees.specs.PersesMode.{perses_mode}

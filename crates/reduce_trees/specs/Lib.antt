@@ -1,10 +1,10 @@
 pub use Rattle.reduce_step.specs.Limits
-pub use Rattle.reduce_perses_trials.specs as ReducePersesTrials
+pub use Rattle.reduce_perses.specs as ReducePerses
 pub use Rattle.reduce_trees_mode.specs as ReduceTreesMode
 pub use Rattle.reduce_walk.specs.Rounds as WalkRounds
 pub use Rattle.reduce_perses.specs.VisitRounds
 pub use Rattle.reduce_hdd.specs.LevelRounds
-pub use Rattle.reduce_hdd_trials.specs.Followed as LevelsEnd
+pub use Rattle.reduce_hdd.specs.Followed as LevelsEnd
 pub mod TreeRounds
 pub mod WalkMode
 pub mod PersesMode

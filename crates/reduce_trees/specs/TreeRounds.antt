@@ -6,9 +6,9 @@ use Rattle.reduce_rounds.specs.StateTexts.{StateTexts}
 use Rattle.reduce_rounds.specs.Reduction.{RoundEnd}
 use Rattle.syntax_tree.specs.Trees.{PlainTree}
 use Rattle.reduce_trees_mode.specs.Input.{TreeInput}
-use Rattle.reduce_perses_trials.specs.VisitEnd.{visit_end}
+use Rattle.reduce_perses.specs.VisitEnd.{visit_end}
 use Rattle.descend_replace.specs.FitsIn.{fits_in}
-use Rattle.reduce_hdd_trials.specs.Followed.{levels_end}
+use Rattle.reduce_hdd.specs.Followed.{levels_end}
 
 -- it visits node after node, the heaviest first, or it goes level after level, from the root down
 abbrev pub tree_round : TreeMode → TreeInput → StateTexts PlainTree → (List ℕ → Bool) → PlainTree → RoundEnd PlainTree

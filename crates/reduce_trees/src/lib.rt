@@ -2,7 +2,7 @@
 //! are asked as texts.
 //!
 //! What a round tries of a tree is the walk's ([`TreeWalk`](reduce_walk::TreeWalk)): in mode `perses`
-//! read `reduce_perses_trials/specs/Visit.antt`; which of these trees are asked, and as which texts, is
+//! read `reduce_perses/specs/Visit.antt`; which of these trees are asked, and as which texts, is
 //! in `reduce_trees_mode/specs/Listed.antt`. Enter by [`TreeParts::new`] and [`tree_reducer`], or
 //! [`perses_reducer`] and [`hdd_reducer`] in their modes. What never changes is in [`TreeParts`], which
 //! is lent; [`TreeRound`] has the walk, and what is tried now (`specs/Fields.antt`). What a reduction

@@ -4,7 +4,7 @@ use Rattle.std.specs.Cmp.Lexicographic.{pointwise}
 use Rattle.std.specs.Bool.{beq}
 use Rattle.std.specs.List.{list_any}
 use Rattle.list_ddmin.specs.ListStep.{kept_of}
-use Rattle.reduce_list_trials.specs.ListEnd.{keep_verdict, listed_texts}
+use Rattle.reduce_rounds.specs.ListEnd.{keep_verdict, listed_texts}
 use Rattle.reduce_core.specs.declared.lines.Line.{Line}
 use Rattle.reduce_core.specs.Reduction.{Admits, line_texts}
 

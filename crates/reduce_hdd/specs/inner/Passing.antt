@@ -6,8 +6,8 @@ use Rattle.list_ddmin.specs.Machine.{State, IsSound, asks, kept}
 use Rattle.reduce_rounds.specs.Trials.{Trials}
 use Rattle.syntax_tree.specs.Trees.{PlainTree}
 use Rattle.hdd_levels.specs.Levels.{fills_pluses, kept_tree}
-use Rattle.reduce_hdd_trials.specs.Allowed.{allowed_trials}
-use Rattle.reduce_hdd_trials.specs.Round.{nodes_tried}
+use Rattle.reduce_hdd.specs.Allowed.{allowed_trials}
+use Rattle.reduce_hdd.specs.Round.{nodes_tried}
 
 module _ (N : NormalForm) (t : PlainTree) (nodes : List ℕ) where
   -- the trials from a state of the list step over these nodes of the tree t, where the round goes on by `go`

@@ -8,8 +8,8 @@ use Rattle.syntax_tree.specs.Nodes.{SyntaxTree}
 use Rattle.syntax_tree_cut.specs.Cuts.{CutForm, IsCutOf, cut_tree}
 use Rattle.hdd_levels.specs.Levels.{fills_pluses, kept_tree}
 use Rattle.hdd_levels.specs.LevelForms.{IsLevelAt}
-use Rattle.reduce_hdd_trials.specs.Allowed.{allowed_trials}
-use Rattle.reduce_hdd_trials.specs.Round.{levels_from}
+use Rattle.reduce_hdd.specs.Allowed.{allowed_trials}
+use Rattle.reduce_hdd.specs.Round.{levels_from}
 use Rattle.reduce_walk.specs.WalkState.{WalkState}
 use Rattle.reduce_hdd.specs.declared.level_step.LevelStep.{LevelStep}
 use Rattle.reduce_hdd.specs.inner.Passing.{IsAsking, allowed_from}

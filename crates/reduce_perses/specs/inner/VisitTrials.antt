@@ -5,14 +5,14 @@ use Rattle.normal_form.specs.Form.{NormalForm}
 use Rattle.list_ddmin.specs.Machine.{State, kept}
 use Rattle.node_queue.specs.Waiting.{Waiting}
 use Rattle.reduce_rounds.specs.Trials.{Trials, Done}
-use Rattle.reduce_list_trials.specs.ListTrials.{list_trials}
+use Rattle.reduce_rounds.specs.ListTrials.{list_trials}
 use Rattle.syntax_tree.specs.Trees.{PlainTree}
 use Rattle.syntax_tree.specs.Valid.{slot_at}
 use Rattle.syntax_tree.specs.Numbered.{subtree, with_subtree}
 use Rattle.syntax_tree.specs.Left.{selected_trees}
 use Rattle.descend_replace.specs.Compatible.{compatible}
-use Rattle.reduce_perses_trials.specs.Queued.{with_trees}
-use Rattle.reduce_perses_trials.specs.Visit.{each_tried, optional_visited, visit_from}
+use Rattle.reduce_perses.specs.Queued.{with_trees}
+use Rattle.reduce_perses.specs.Visit.{each_tried, optional_visited, visit_from}
 use Rattle.reduce_perses.specs.declared.visit.Visit.{Visit}
 use Rattle.reduce_perses.specs.declared.visit.Visit.TheVariants.{Elements, Content, Descendants}
 use Rattle.descend_replace.specs.FitsIn.{fits_in}

@@ -6,17 +6,17 @@ use Rattle.normal_form.specs.Form.{RuleForm, NormalForm}
 use Rattle.list_ddmin.specs.Machine.{State, IsSound, asks, kept}
 use Rattle.node_queue.specs.Waiting.{Waiting}
 use Rattle.reduce_rounds.specs.Trials.{Trials}
-use Rattle.reduce_list_trials.specs.Selections.{IsRemainder}
-use Rattle.reduce_list_trials.specs.inner.Selections.{IsRemainderAt}
+use Rattle.reduce_rounds.specs.Selections.{IsRemainder}
+use Rattle.reduce_rounds.specs.inner.Selections.{IsRemainderAt}
 use Rattle.syntax_tree.specs.Trees.{PlainTree, PlainTrees, count, size}
 use Rattle.syntax_tree.specs.Valid.{slot_at}
 use Rattle.syntax_tree.specs.Numbered.{number_of, subtree}
 use Rattle.syntax_tree.specs.Nodes.{SyntaxTree}
 use Rattle.syntax_tree_cut.specs.Cuts.{CutForm, IsCutOf, cut_tree}
 use Rattle.descend_replace.specs.Compatible.{compatible}
-use Rattle.reduce_perses_trials.specs.Queued.{IsInRound, nodes_in}
-use Rattle.reduce_perses_trials.specs.Visit.{node_visited}
-use Rattle.reduce_perses_trials.specs.Laws.{IsNextVisit}
+use Rattle.reduce_perses.specs.Queued.{IsInRound, nodes_in}
+use Rattle.reduce_perses.specs.Visit.{node_visited}
+use Rattle.reduce_perses.specs.Laws.{IsNextVisit}
 use Rattle.reduce_walk.specs.WalkState.{WalkState}
 use Rattle.reduce_perses.specs.declared.visit.Visit.{Visit}
 use Rattle.reduce_perses.specs.declared.visit.Visit.TheVariants.{Elements, Content, Descendants}

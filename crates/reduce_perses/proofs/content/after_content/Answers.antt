@@ -2,7 +2,7 @@ use Rattle.std.proofs.Common.{refl}
 use Rattle.syntax_tree.specs.Trees.{PlainTree}
 use Rattle.syntax_tree.specs.Numbered.{subtree}
 use Rattle.syntax_tree_cut.specs.Cuts.{cut_tree}
-use Rattle.reduce_perses_trials.proofs.Lent.{is_some}
+use Rattle.reduce_perses.proofs.NodeFacts.{is_some}
 use Rattle.reduce_perses.proofs.ContentLemmas.{can_empty, content, goes_on_with, goes_on_without}
 use Rattle.reduce_perses.proofs.content.after_content.Goals as goal
 

@@ -2,7 +2,7 @@ use Rattle.std.proofs.Common.{ap, ◌∙◌}
 use Rattle.syntax_tree.specs.Trees.{PlainTree}
 use Rattle.syntax_tree.specs.Numbered.{subtree}
 use Rattle.syntax_tree_cut.specs.Cuts.{cut_tree}
-use Rattle.reduce_perses_trials.proofs.Lent.{is_some}
+use Rattle.reduce_perses.proofs.NodeFacts.{is_some}
 use Rattle.reduce_perses.proofs.DescendantsLemmas.{can_replace, found_at, goes_on_at_yes, stays_found, tree_at}
 use Rattle.reduce_perses.proofs.descendants.after_replacement.Goals as goal
 

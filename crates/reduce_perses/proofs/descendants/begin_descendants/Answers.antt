@@ -3,7 +3,7 @@ use Rattle.syntax_tree.specs.Trees.{PlainTree}
 use Rattle.syntax_tree.specs.Numbered.{subtree}
 use Rattle.syntax_tree_cut.specs.Cuts.{cut_tree}
 use Rattle.descend_replace.proofs.Lent.{decides}
-use Rattle.reduce_perses_trials.proofs.Lent.{is_some}
+use Rattle.reduce_perses.proofs.NodeFacts.{is_some}
 use Rattle.descend_replace.specs.FitsIn.{fits_in}
 use Rattle.reduce_perses.specs.inner.Visiting.{AreFound, descendants_at, node_trials}
 use Rattle.reduce_perses.proofs.DescendantsLemmas.{are_found, begins_at, same_goes}

@@ -1,5 +1,5 @@
 use Rattle.syntax_tree_cut.specs.Cuts.{cut_tree}
-use Rattle.reduce_perses_trials.specs.Queued.{nodes_in}
+use Rattle.reduce_perses.specs.Queued.{nodes_in}
 use Rattle.reduce_perses.proofs.NextLemmas.{IsAtQueue}
 use Rattle.reduce_perses.proofs.visit.next_visit.Given as goal
 

@@ -3,7 +3,7 @@ use Rattle.syntax_tree.specs.Trees.{PlainTree, children_of}
 use Rattle.syntax_tree.specs.Numbered.{subtree}
 use Rattle.syntax_tree.specs.Nodes.{later_trees}
 use Rattle.syntax_tree_cut.specs.Cuts.{cut_tree}
-use Rattle.reduce_perses_trials.specs.Queued.{with_trees}
+use Rattle.reduce_perses.specs.Queued.{with_trees}
 use Rattle.reduce_perses.proofs.waiting.queue_children.Given as goal
 
 -- with the children that are still to come it is the queue with all of them

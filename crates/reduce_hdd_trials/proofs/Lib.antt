@@ -1,9 +1,0 @@
-mod AllowedTrials
-mod KeptDepth
-mod Lighter
-mod Going
-mod Rounds
-mod KeptLevels
-mod Following
-mod WorkedLemmas
-pub mod Lent

@@ -1,5 +1,0 @@
-use Rattle.reduce_hdd_trials.proofs.Lighter as lemmas
-use Rattle.reduce_hdd_trials.proofs.laws.fewer_nodes_are_lighter.Goals as goal
-
-pub returns : goal.returns
-returns c = lemmas.fewer_lighter c.weights_count_leaves.ensures

@@ -1,5 +1,0 @@
-use Rattle.reduce_hdd_trials.proofs.Going as lemmas
-use Rattle.reduce_hdd_trials.proofs.laws.goes_by_levels.Goals as goal
-
-pub returns : goal.returns
-returns c = lemmas.goes_by_levels

@@ -1,5 +1,0 @@
-use Rattle.reduce_hdd_trials.proofs.WorkedLemmas as lemmas
-use Rattle.reduce_hdd_trials.proofs.laws.worked_rounds.Goals as goal
-
-pub returns : goal.returns
-returns c = record { statements = lemmas.statements_go; blocks = lemmas.blocks_stay; plus = lemmas.plus_keeps_one }

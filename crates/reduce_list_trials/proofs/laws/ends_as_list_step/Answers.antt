@@ -1,5 +1,0 @@
-use Rattle.reduce_list_trials.proofs.Ends as lemmas
-use Rattle.reduce_list_trials.proofs.laws.ends_as_list_step.Goals as goal
-
-pub returns : goal.returns
-returns g c = λ texts verdict state_of next. lemmas.ends_as_list_step texts verdict state_of next

@@ -1,5 +1,0 @@
-use Rattle.reduce_list_trials.proofs.GoesOn as lemmas
-use Rattle.reduce_list_trials.proofs.laws.goes_by_questions.Goals as goal
-
-pub returns : goal.returns
-returns g c = λ state_of next. lemmas.goes_by_questions state_of next

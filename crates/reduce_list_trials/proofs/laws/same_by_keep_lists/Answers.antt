@@ -1,5 +1,0 @@
-use Rattle.reduce_list_trials.proofs.Tried as lemmas
-use Rattle.reduce_list_trials.proofs.laws.same_by_keep_lists.Goals as goal
-
-pub returns : goal.returns
-returns g c = λ state_of state_of' next next'. lemmas.same_by_keep_lists state_of state_of' next next'

@@ -1,5 +1,0 @@
-use Rattle.reduce_perses_trials.proofs.Rounds as lemmas
-use Rattle.reduce_perses_trials.proofs.laws.loses_leaves.Goals as goal
-
-pub returns : goal.returns
-returns c = lemmas.loses_leaves c.elements_have_tokens.ensures

@@ -1,5 +1,0 @@
-use Rattle.reduce_perses_trials.proofs.Rounds as lemmas
-use Rattle.reduce_perses_trials.proofs.laws.tries_edits_and_selections.Goals as goal
-
-pub returns : goal.returns
-returns c = lemmas.tries_edits_and_selections

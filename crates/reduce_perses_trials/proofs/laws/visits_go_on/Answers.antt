@@ -1,5 +1,0 @@
-use Rattle.reduce_perses_trials.proofs.Rounds as lemmas
-use Rattle.reduce_perses_trials.proofs.laws.visits_go_on.Goals as goal
-
-pub returns : goal.returns
-returns c = lemmas.visits_go_on

@@ -1,5 +1,0 @@
-use Rattle.reduce_perses_trials.proofs.WorkedLemmas as lemmas
-use Rattle.reduce_perses_trials.proofs.laws.worked_rounds.Goals as goal
-
-pub returns : goal.returns
-returns c = record { brackets = lemmas.brackets_go; blocks = lemmas.blocks_go; plus = lemmas.plus_keeps_one }
