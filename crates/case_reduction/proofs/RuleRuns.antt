@@ -13,8 +13,8 @@ use Rattle.verdict_table.specs.declared.record.Record.{Record}
 use Rattle.verdict_table.specs.TableState.{verdict_in}
 use Rattle.reduce_journal.specs.History.{History, asked_records_of, records_of}
 use Rattle.reduce_journal.specs.declared.counts.Counts.{Counts}
-use Rattle.ordered_commit_moves.specs.Replay.{AllGoWith}
-use Rattle.ordered_commit_moves.proofs.Lent.{none_recalled}
+use Rattle.ordered_commit.specs.Replay.{AllGoWith}
+use Rattle.ordered_commit.proofs.Lent.{none_recalled}
 use Rattle.run_gated.specs.Seen.{SeenGate, fault_counts_of, seen_gates}
 use Rattle.run_gated.specs.Run.{Run}
 use Rattle.run_gated.specs.Records.{FirstIs}

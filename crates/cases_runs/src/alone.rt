@@ -14,11 +14,11 @@ use gate_permits::Texts;
 use ordered_commit::{Board, Outcome, PoolFault, Refused};
 use reduce_journal::digest_of;
 use reduce_step::Step;
-use run_worker::run_alone;
 use script_gate_trait::{Gate, ListGate, RuleGate, Said};
 use std::alloc::{AllocError, Global};
 use std::sync::Wait;
 use verdict_table::Kept;
+use worker_pool::run_alone;
 
 /// What a run comes to, or what is handed back where there is no board.
 type Came = Result<Outcome<SmallStep, MemSink>, Refused<SmallStep, MemSink>>;

@@ -7,7 +7,7 @@ use Rattle.verdict_table.specs.TableState.{TableState, verdict_in}
 use Rattle.verdict_table.proofs.Lent.{extends_itself}
 use Rattle.reduce_step.specs.Plan.{End, HasEnded, MayAsk, Plan, StepResult, asked, follow}
 use Rattle.reduce_journal.specs.History.{History, records_of}
-use Rattle.ordered_commit_moves.specs.Replay.{IsLegal, record_at}
+use Rattle.ordered_commit.specs.Replay.{IsLegal, record_at}
 use Rattle.cert_check.specs.Findings.{IsFirstIllegal, IsFirstOther, IsSoundRun}
 use Rattle.cert_check.specs.declared.finding.Finding.{Finding}
 use Rattle.cert_check.specs.declared.finding.Finding.TheVariants.{Yes, No}

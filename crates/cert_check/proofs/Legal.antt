@@ -11,8 +11,8 @@ use Rattle.reduce_step.specs.Plan.{Plan, after, follow}
 use Rattle.reduce_step.proofs.Lent.{follow_after}
 use Rattle.reduce_journal.specs.declared.event.Event.TheVariants.{Recorded, Committed}
 use Rattle.reduce_journal.specs.History.{History, records_of}
-use Rattle.ordered_commit_moves.specs.Replay.{CommitsWhatIsAsked, IsLegal, answered, record_at, replay_from}
-use Rattle.ordered_commit_moves.proofs.Lent.{extends_at}
+use Rattle.ordered_commit.specs.Replay.{CommitsWhatIsAsked, IsLegal, answered, record_at, replay_from}
+use Rattle.ordered_commit.proofs.Lent.{extends_at}
 use Rattle.cert_check.specs.Laws.{LegalHistoriesFollow}
 
 -- to go on from where commits of what is asked lead comes to the same as from before them

@@ -13,7 +13,7 @@ use Rattle.verdict_table.specs.declared.found.Found.TheVariants.{Absent, Claimed
 use Rattle.verdict_table.specs.declared.record.Record.{Record}
 use Rattle.verdict_table.specs.declared.table.Claim.{Claim}
 use Rattle.verdict_table.specs.TableState.{TableState, found_in, record_from, texts_of}
-use Rattle.ordered_commit_moves.specs.Replay.{record_at}
+use Rattle.ordered_commit.specs.Replay.{record_at}
 use Rattle.cert_check.specs.Findings.{IsFirstOther}
 use Rattle.cert_check.specs.inner.Replayed.{is_absent}
 

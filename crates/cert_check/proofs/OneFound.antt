@@ -5,7 +5,7 @@ use Rattle.std.proofs.lemmas.List.Elements.{All-head, All-tail}
 use Rattle.verdict_table.specs.declared.record.Record.{Record}
 use Rattle.reduce_step.specs.Plan.{Plan}
 use Rattle.reduce_journal.specs.History.{History, records_of}
-use Rattle.ordered_commit_moves.specs.Replay.{IsLegal, record_at}
+use Rattle.ordered_commit.specs.Replay.{IsLegal, record_at}
 use Rattle.run_problem.specs.Problem.{IsCandidateOf, start_text}
 use Rattle.run_problem.specs.Reducer.{reducer_of}
 use Rattle.cert_check.specs.declared.finding.Finding.{Finding}

@@ -15,8 +15,8 @@ use Rattle.verdict_table.proofs.Lent.{absent_where, not_among}
 use Rattle.reduce_step.specs.Plan.{Plan, after, asked}
 use Rattle.reduce_journal.specs.declared.event.Event.TheVariants.{Recorded, Committed}
 use Rattle.reduce_journal.specs.History.{History, records_of}
-use Rattle.ordered_commit_moves.specs.Replay.{CommitsWhatIsAsked, IsLegal, answered, record_at, replay, replay_from}
-use Rattle.ordered_commit_moves.proofs.Lent.{records_more}
+use Rattle.ordered_commit.specs.Replay.{CommitsWhatIsAsked, IsLegal, answered, record_at, replay, replay_from}
+use Rattle.ordered_commit.proofs.Lent.{records_more}
 use Rattle.cert_check.specs.Findings.{IsFirstIllegal}
 use Rattle.cert_check.specs.inner.Asked.{IsRecordOf}
 use Rattle.cert_check.specs.inner.Replayed.{IsReplayed}

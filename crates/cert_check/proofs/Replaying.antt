@@ -16,8 +16,8 @@ use Rattle.reduce_step.specs.Plan.{MayAsk, Plan, after, asked}
 use Rattle.reduce_step.proofs.Lent.{after_may, asked_may}
 use Rattle.reduce_journal.specs.declared.event.Event.TheVariants.{Recorded, Committed}
 use Rattle.reduce_journal.specs.History.{History, records_of}
-use Rattle.ordered_commit_moves.specs.Replay.{answered, record_at, replay}
-use Rattle.ordered_commit_moves.proofs.Lent.{commits_commit, commits_record, records_more, records_same, replay_commit, replay_record}
+use Rattle.ordered_commit.specs.Replay.{answered, record_at, replay}
+use Rattle.ordered_commit.proofs.Lent.{commits_commit, commits_record, records_more, records_same, replay_commit, replay_record}
 use Rattle.cert_check.specs.inner.Asked.{MarkedMayBeAsked}
 use Rattle.cert_check.specs.inner.Replayed.{IsReplayed}
 

@@ -11,7 +11,7 @@ use Rattle.reduce_journal.specs.declared.read.Journal.{Journal}
 use Rattle.reduce_journal.specs.History.{History, records_of}
 use Rattle.reduce_journal.specs.Journal.{IsDigestOf}
 use Rattle.reduce_rounds.specs.Verdicts.{HasVerdicts}
-use Rattle.ordered_commit_moves.specs.Replay.{IsLegal, record_at}
+use Rattle.ordered_commit.specs.Replay.{IsLegal, record_at}
 use Rattle.run_problem.specs.Problem.{IsCandidateOf, Problem, questions_of, reduced_text, refuses, start_text}
 use Rattle.run_problem.specs.Reducer.{reducer_of}
 use Rattle.cert_check.specs.declared.finding.Finding.{Finding}

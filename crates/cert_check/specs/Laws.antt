@@ -13,7 +13,7 @@ use Rattle.reduce_rounds.specs.Laws.{IsTheReduction}
 use Rattle.reduce_rounds.specs.Verdicts.{HasVerdicts}
 use Rattle.reduce_journal.specs.declared.head.Head.{Head}
 use Rattle.reduce_journal.specs.History.{History, IsHistory, records_of}
-use Rattle.ordered_commit_moves.specs.Replay.{IsLegal, replay}
+use Rattle.ordered_commit.specs.Replay.{IsLegal, replay}
 use Rattle.run_gated.specs.Records.{FirstIs}
 use Rattle.run_problem.specs.Committed.{IsPrefix, committed_texts, questions_over}
 use Rattle.run_problem.specs.Problem.{IsCandidateOf, IsProblem, IsReductionOf, Problem, recursion_of, reduced_text, start_text}

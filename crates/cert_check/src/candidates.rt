@@ -2,7 +2,7 @@
 
 ghost use Rattle.std.specs.Prelude.{◌≡◌, ◌↔◌, ℕ, suc, All, IfOk, IsTrue, MatchOption, Some, slice_get, true};
 ghost use Rattle.verdict_table.specs.declared.record.Record.{Record as SomeRecord};
-ghost use Rattle.ordered_commit_moves.specs.Replay.{record_at};
+ghost use Rattle.ordered_commit.specs.Replay.{record_at};
 ghost use Rattle.cert_check.specs.Findings.{IsFirstOther};
 
 use cert_check_texts::Candidates;

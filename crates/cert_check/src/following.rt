@@ -3,7 +3,7 @@
 ghost use Rattle.std.specs.Prelude.{◌≡◌, ◌↔◌, IsTrue, OnOk};
 ghost use Rattle.reduce_journal.specs.History.{History, records_of};
 ghost use Rattle.reduce_step.specs.Plan.{HasEnded, Plan, follow};
-ghost use Rattle.ordered_commit_moves.specs.Replay.{IsLegal};
+ghost use Rattle.ordered_commit.specs.Replay.{IsLegal};
 ghost use Rattle.verdict_table.specs.TableState.{verdict_in};
 ghost use Rattle.cert_check.specs.inner.Asked.{MarkedMayBeAsked};
 ghost use Rattle.cert_check.specs.inner.Steps.{IsFindingOfEnd};

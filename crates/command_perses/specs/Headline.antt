@@ -12,7 +12,7 @@ use Rattle.reduce_journal.specs.History.{History, IsHistory, asked_records_of, r
 use Rattle.reduce_journal.specs.Journal.{IsDigest, IsDigestOf, journal_text}
 use Rattle.reduce_journal.specs.declared.digest.Digest.{Digest}
 use Rattle.reduce_journal.specs.Report.{report_text}
-use Rattle.ordered_commit_moves.specs.Replay.{AllGoWith}
+use Rattle.ordered_commit.specs.Replay.{AllGoWith}
 use Rattle.reduce_rounds.specs.Verdicts.{HasVerdicts}
 use Rattle.run_gated.specs.Records.{BeginsAt, FirstIs, FirstIsNo, OnlyNo}
 use Rattle.run_problem.specs.Committed.{IsPrefix, committed_texts, questions_over, thread_over}

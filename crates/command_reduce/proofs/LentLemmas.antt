@@ -9,7 +9,7 @@ use Rattle.script_gate_trait.specs.declared.log.Log.{Log}
 use Rattle.verdict_table.specs.declared.record.Record.{Record}
 use Rattle.verdict_table.specs.TableState.{texts_of}
 use Rattle.reduce_journal.specs.History.{History, asked_records_of}
-use Rattle.run_worker.specs.RunHistory.{with_all_asked}
+use Rattle.worker_pool.specs.RunHistory.{with_all_asked}
 use Rattle.run_gated.specs.Workers.{AreIdle, RoseAtIndex}
 use Rattle.worker_pool.specs.declared.worker.Worker.{Worker}
 use Rattle.command_words.specs.Commands.{ReduceOptions}

@@ -4,7 +4,7 @@ use Rattle.faults.specs.Count.{Rose}
 use Rattle.edge_io.specs.Sink.{Put}
 use Rattle.script_gate_trait.specs.declared.gate.Verdict.{Verdict}
 use Rattle.verdict_table.specs.TableState.{verdict_in}
-use Rattle.run_worker.specs.RunEnds.{HasWritten}
+use Rattle.worker_pool.specs.RunEnds.{HasWritten}
 use Rattle.run_gated.specs.Seen.{AreQuiet, NoneFailed, SeenJournal, fault_counts_of}
 use Rattle.run_gated.specs.Run.{Run}
 use Rattle.run_gated.specs.RunEnds.{IsSound, IsWrittenWhole, JournalHas}

@@ -10,7 +10,7 @@ use Rattle.verdict_table.specs.TableState.{texts_of}
 use Rattle.reduce_journal.specs.History.{History, asked_records_of}
 use Rattle.run_gated.specs.Run.{Run}
 use Rattle.run_gated.specs.Records.{AreAnswers, AreAsked, all_asked}
-use Rattle.run_worker.specs.RunHistory.{with_all_asked}
+use Rattle.worker_pool.specs.RunHistory.{with_all_asked}
 use Rattle.command_words.specs.Commands.{ReduceOptions}
 use Rattle.command_ends.specs.World.{SeenGate, SeenJournal, logs_of}
 use Rattle.command_reduce_calls.specs.Openings.{GateRefused, opened_from, opened_log}

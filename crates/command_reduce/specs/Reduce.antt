@@ -16,7 +16,7 @@ use Rattle.reduce_journal.specs.declared.counts.Counts.{Counts}
 use Rattle.command_reduce_calls.specs.Journal.{JournalBroken, JournalSoFar, JournalUntouched, JournalWhole}
 use Rattle.command_reduce_calls.specs.Stays.{AcceptsStart, NamesBeyond, first_beyond_start, tokens_stay, wishes_of}
 use Rattle.verdict_table.specs.TableState.{texts_of, verdict_in}
-use Rattle.ordered_commit_moves.specs.Replay.{AllGoWith}
+use Rattle.ordered_commit.specs.Replay.{AllGoWith}
 use Rattle.keep_guard.specs.Keep.{first_missing, holds_all}
 use Rattle.reduce_core.specs.Reduction.{Admits}
 use Rattle.line_guard.specs.MustStay.{Stays, stays_admit}
@@ -38,7 +38,7 @@ use Rattle.command_problem.specs.Problem.{InputHas, IsReached, IsShownFault, IsS
 use Rattle.command_problem.specs.Problem.{paths_before, problem_paths}
 use Rattle.command_ends.specs.Status.{IsOneOf, IsUncut, bad_record_text, beyond_text, fault_line, keep_text, other_start_text, script_text, word_for}
 use Rattle.command_words.specs.Commands.{GrammarOptions, ModeOptions, ReduceOptions}
-use Rattle.run_worker.specs.RunHistory.{with_all_asked}
+use Rattle.worker_pool.specs.RunHistory.{with_all_asked}
 use Rattle.command_reduce_calls.specs.Openings.{opened_from, opened_log}
 use Rattle.command_ends.specs.World.{AnyGateFailed, AreQuiet, CallFailed, FilesRead, GateFailed, IsOver, IsQuiet, NotReached, Puts, SomeFilesRead, logs_of}
 use Rattle.command_ends.specs.World.{UnreadAfter, UnwrittenAfter, WrittenAfter}

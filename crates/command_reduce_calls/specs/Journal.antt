@@ -3,9 +3,9 @@ use Rattle.std.specs.Prelude.{◌≡◌, ℕ, List, [], Option, option_map}
 use Rattle.edge_io.specs.Sink.{Put, empty_put}
 use Rattle.reduce_journal.specs.declared.digest.Digest.{Digest}
 use Rattle.reduce_journal.specs.History.{History}
-use Rattle.ordered_commit_moves.specs.Moves.{KeptVerdicts}
+use Rattle.ordered_commit.specs.Moves.{KeptVerdicts}
 use Rattle.run_gated.specs.Workers.{HasPartBy}
-use Rattle.run_worker.specs.RunEnds.{HasWritten}
+use Rattle.worker_pool.specs.RunEnds.{HasWritten}
 use Rattle.command_ends.specs.World.{IsQuiet, SeenJournal}
 
 -- what is visible of it once it was opened under this name

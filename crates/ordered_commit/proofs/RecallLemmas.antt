@@ -1,7 +1,6 @@
 -- A recall: when one can be made, and what holds of the board after it.
 use Rattle.std.proofs.Common.{◌≡◌, ◌++◌, ◌+◌, ◌*◌, ◌-◌, ◌≤◌, ◌||◌, ℕ, List, [], ◌∷◌, All, Contains, Bool, true, false, cond, not, Option, Some, None, Err}
-use Rattle.std.proofs.Common.{Bor, IfSome, length, nat_eq, option_copied, option_map, take, append-nil, append_assoc}
-use Rattle.std.proofs.Common.{arith, refl, sym, ap, ◌∙◌, subst}
+use Rattle.std.proofs.Common.{Bor, IfSome, length, nat_eq, option_copied, option_map, take, append-nil, append_assoc, arith, refl, sym, ap, ◌∙◌, subst}
 use Rattle.std.proofs.lemmas.Bool.{or_parts}
 use Rattle.std.proofs.lemmas.Cmp.{nat_eq_equiv}
 use Rattle.std.proofs.lemmas.List.{length-append, map-append}
@@ -30,9 +29,9 @@ use Rattle.verdict_table.proofs.Lent.{distinct_front, sound_claimed, sound_fille
 use Rattle.reduce_journal.specs.History.{History, IsHistory, records_of}
 use Rattle.reduce_journal.specs.Journal.{journal_text}
 use Rattle.reduce_journal.proofs.Lent.{one_event_more}
-use Rattle.ordered_commit_moves.specs.Replay.{IsLegal}
-use Rattle.ordered_commit_moves.specs.Moves.{is_recorded, kept_of, kept_record, recalled_as}
-use Rattle.ordered_commit_moves.proofs.Lent.{asked_recalled, commits_record, go_with_more, kept_found, not_true, records_more, replay_record}
+use Rattle.ordered_commit.specs.Replay.{IsLegal}
+use Rattle.ordered_commit.specs.Moves.{is_recorded, kept_of, kept_record, recalled_as}
+use Rattle.ordered_commit.proofs.Runs.{asked_recalled, commits_record, go_with_more, kept_found, not_true, records_more, replay_record}
 use Rattle.ordered_commit.specs.declared.fault.BoardFault.{BoardFault}
 use Rattle.ordered_commit.specs.declared.fault.BoardFault.TheVariants.{Journal as NotWritten, Memory as OutOfMemory}
 use Rattle.ordered_commit.specs.declared.fault.PoolFault.{PoolFault}

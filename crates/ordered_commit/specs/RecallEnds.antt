@@ -6,7 +6,7 @@ use Rattle.verdict_table.specs.declared.record.Record.{Record}
 use Rattle.verdict_table.specs.TableState.{TableState, claim_count, verdict_in}
 use Rattle.reduce_journal.specs.declared.event.Event.{Event}
 use Rattle.reduce_journal.specs.declared.event.Event.TheVariants.{Recorded}
-use Rattle.ordered_commit_moves.specs.Moves.{Recalls, kept_of}
+use Rattle.ordered_commit.specs.Moves.{Recalls, kept_of}
 use Rattle.ordered_commit.specs.declared.fault.PoolFault.TheVariants.{Journal as JournalFault, Memory as MemoryFault}
 use Rattle.ordered_commit.specs.declared.fault.BoardFault.{BoardFault}
 use Rattle.ordered_commit.specs.declared.fault.BoardFault.TheVariants.{Journal, Memory}

@@ -6,7 +6,7 @@ use Rattle.faults.specs.declared.Memory.{Memory}
 use Rattle.gate_permits.specs.Permits.{ClaimedText}
 use Rattle.reduce_step.specs.Plan.{HasEnded, Plan, asked}
 use Rattle.verdict_table.specs.TableState.{TableState, all_numbers}
-use Rattle.ordered_commit_moves.specs.Moves.{Claims, next_text, text_of_worker}
+use Rattle.ordered_commit.specs.Moves.{Claims, next_text, text_of_worker}
 use Rattle.ordered_commit.specs.declared.fault.PoolFault.TheVariants.{Memory as MemoryFault}
 use Rattle.ordered_commit.specs.declared.seat.Seat.{Seat}
 use Rattle.ordered_commit.specs.declared.take.Take.{Take}

@@ -6,7 +6,7 @@ ghost use Rattle.faults.specs.Count.{Rose};
 ghost use Rattle.reduce_step.specs.Limits.{text_limit};
 ghost use Rattle.reduce_step.specs.Plan.{asked};
 ghost use Rattle.verdict_table.specs.TableState.{IsSound, verdict_in};
-ghost use Rattle.ordered_commit_moves.specs.Moves.{kept_of};
+ghost use Rattle.ordered_commit.specs.Moves.{kept_of};
 ghost use Rattle.ordered_commit.specs.inner.Claiming.{is_absent};
 ghost use Rattle.ordered_commit.specs.Kept.{IsKept};
 ghost use Rattle.ordered_commit.specs.RecallEnds.{RecallEnds};

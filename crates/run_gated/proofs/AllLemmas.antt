@@ -13,7 +13,7 @@ use Rattle.reduce_journal.specs.declared.event.Event.TheVariants.{Committed, Rec
 use Rattle.reduce_journal.specs.History.{History}
 use Rattle.reduce_journal.specs.declared.digest.Digest.{Digest}
 use Rattle.reduce_journal.specs.Journal.{journal_text}
-use Rattle.ordered_commit_moves.specs.Moves.{KeptVerdicts}
+use Rattle.ordered_commit.specs.Moves.{KeptVerdicts}
 use Rattle.ordered_commit.specs.declared.fault.PoolFault.{PoolFault}
 use Rattle.ordered_commit.specs.declared.fault.PoolFault.TheVariants.{Script, Journal, Memory}
 use Rattle.ordered_commit.specs.declared.fault.BoardFault.{BoardFault}
@@ -23,11 +23,11 @@ use Rattle.ordered_commit.specs.BoardState.{BoardState}
 use Rattle.ordered_commit.specs.Faults.{board_fault}
 use Rattle.ordered_commit.specs.Made.{IsRefusedWith}
 use Rattle.ordered_commit.specs.Kept.{BrokeWhereDue, IsDue, IsJournal}
-use Rattle.run_worker.specs.RunHistory.{with_all_asked}
-use Rattle.run_worker.specs.RunEnds.{HasSameName, HasWritten}
-use Rattle.run_worker.specs.inner.RunEnds.{JournalEnds}
-use Rattle.run_worker.specs.UnderWay.{AreJournalBytes}
-use Rattle.run_worker.proofs.Lent.{none_asked, none_history, none_sequential}
+use Rattle.worker_pool.specs.RunHistory.{with_all_asked}
+use Rattle.worker_pool.specs.RunEnds.{HasSameName, HasWritten}
+use Rattle.worker_pool.specs.inner.RunEnds.{JournalEnds}
+use Rattle.worker_pool.specs.UnderWay.{AreJournalBytes}
+use Rattle.worker_pool.proofs.Lent.{none_asked, none_history, none_sequential}
 use Rattle.worker_pool.specs.declared.worker.Worker.{Worker}
 use Rattle.worker_pool.specs.Ends.{AreDone, IsOfOne, IsOutcome}
 use Rattle.worker_pool.specs.Runs.{members}

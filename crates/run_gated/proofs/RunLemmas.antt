@@ -9,7 +9,7 @@ use Rattle.script_gate_trait.specs.declared.gate.Verdict.{Verdict}
 use Rattle.script_gate_trait.specs.declared.gate.Verdict.TheVariants.{Yes, No}
 use Rattle.verdict_table.specs.declared.record.Record.{Record}
 use Rattle.reduce_step.specs.Plan.{Plan, StepResult, End, HasEnded, MayAsk, after, asked, follow}
-use Rattle.verdict_table.specs.TableState.{verdict_in}
+use Rattle.verdict_table.specs.TableState.{verdict_in, texts_of}
 use Rattle.reduce_rounds.specs.Trials.{IsTriedAtNo}
 use Rattle.reduce_rounds.specs.Mode.{Keeps, RoundMode}
 use Rattle.reduce_rounds.specs.Reduction.{reduction}
@@ -19,16 +19,15 @@ use Rattle.reduce_rounds.specs.Laws.{AsksCandidates, EndsMinimal, IsTextOf, IsTh
 use Rattle.reduce_rounds.specs.Verdicts.{HasVerdicts, says_yes}
 use Rattle.reduce_journal.specs.declared.digest.Digest.{Digest}
 use Rattle.reduce_journal.specs.History.{History, asked_records_of, records_of}
-use Rattle.ordered_commit_moves.specs.Moves.{KeptVerdicts}
-use Rattle.ordered_commit_moves.specs.Replay.{replay}
+use Rattle.ordered_commit.specs.Moves.{KeptVerdicts}
+use Rattle.ordered_commit.specs.Replay.{replay}
 use Rattle.ordered_commit.specs.declared.fault.PoolFault.{PoolFault}
 use Rattle.ordered_commit.specs.declared.fault.PoolFault.TheVariants as pool
 use Rattle.script_gate_trait.specs.declared.log.Log.{Log}
-use Rattle.verdict_table.specs.TableState.{texts_of}
-use Rattle.run_worker.specs.RunHistory.{BeginsWith, EndsAtFirst, IsHistoryOf, IsSequential, own_history, with_all_asked}
-use Rattle.run_worker.specs.RunEnds.{BrokeAtEnd, IsCaused, ReducerEnds}
-use Rattle.run_worker.specs.inner.RunEnds.{HasPart, JournalEnds}
-use Rattle.run_worker.proofs.Lent.{has_beginning}
+use Rattle.worker_pool.specs.RunHistory.{BeginsWith, EndsAtFirst, IsHistoryOf, IsSequential, own_history, with_all_asked}
+use Rattle.worker_pool.specs.RunEnds.{BrokeAtEnd, IsCaused, ReducerEnds}
+use Rattle.worker_pool.specs.inner.RunEnds.{HasPart, JournalEnds}
+use Rattle.worker_pool.proofs.Lent.{has_beginning}
 use Rattle.run_gated.specs.Faults.{fault_kept}
 use Rattle.run_gated.specs.Records.{AreAsked, AreOfMode, BeginsAt, FirstIs, FirstIsNo, OnlyNo}
 use Rattle.run_gated.specs.Seen.{NoneFailed, SeenGate, SeenJournal}

@@ -2,7 +2,7 @@
 use Rattle.std.proofs.Common.{arith, ◌≡◌, ◌<◌, ℕ, zero, suc, List, [], ◌∷◌, Option, length, map, option_map, slice_index_or, refl, ap, ◌∙◌}
 use Rattle.faults.specs.Count.{Rose}
 use Rattle.script_gate_trait.specs.declared.log.Log.{Log}
-use Rattle.run_worker.specs.RunHistory.{with_all_asked}
+use Rattle.worker_pool.specs.RunHistory.{with_all_asked}
 use Rattle.run_gated.specs.Records.{all_asked}
 use Rattle.run_gated.specs.Workers.{RoseAtIndex}
 

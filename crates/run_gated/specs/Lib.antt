@@ -1,6 +1,5 @@
 pub use Rattle.faults.specs.Memory
 pub use Rattle.reduce_rounds.specs as ReduceRounds
-pub use Rattle.run_worker.specs as RunWorker
 pub use Rattle.worker_pool.specs as WorkerPool
 pub mod Seen
 pub mod Run

@@ -9,10 +9,10 @@ use Rattle.verdict_table.specs.declared.record.Record.{Record}
 use Rattle.verdict_table.specs.TableState.{texts_of, verdict_in}
 use Rattle.reduce_rounds.specs.Mode.{RoundMode}
 use Rattle.reduce_rounds.specs.Laws.{IsTextOf}
-use Rattle.run_worker.specs.RunHistory.{IsBeginning, own_history, with_all_asked}
+use Rattle.worker_pool.specs.RunHistory.{IsBeginning, own_history, with_all_asked}
 use Rattle.reduce_journal.specs.History.{History, IsHistory, asked_records_of, records_of}
-use Rattle.ordered_commit_moves.specs.Moves.{KeptVerdicts}
-use Rattle.ordered_commit_moves.specs.Replay.{AllGoWith, IsLegal}
+use Rattle.ordered_commit.specs.Moves.{KeptVerdicts}
+use Rattle.ordered_commit.specs.Replay.{AllGoWith, IsLegal}
 use Rattle.reduce_rounds.specs.RoundsPlan.{plan_first}
 use Rattle.run_gated.specs.Seen.{logs_of}
 use Rattle.run_gated.specs.Run.{Run}

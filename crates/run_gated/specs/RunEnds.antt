@@ -14,10 +14,10 @@ use Rattle.reduce_rounds.specs.ByTrials.{recursion_of, reduction_of}
 use Rattle.reduce_rounds.specs.Laws.{EndsWell, result_of}
 use Rattle.reduce_rounds.specs.Verdicts.{HasVerdicts, says_yes}
 use Rattle.reduce_rounds.specs.RoundsPlan.{IsStart, plan_first}
-use Rattle.ordered_commit_moves.specs.Moves.{KeptVerdicts}
-use Rattle.ordered_commit_moves.specs.Replay.{replay}
-use Rattle.run_worker.specs.RunHistory.{own_history}
-use Rattle.run_worker.specs.RunEnds.{HasNothing, HasWritten}
+use Rattle.ordered_commit.specs.Moves.{KeptVerdicts}
+use Rattle.ordered_commit.specs.Replay.{replay}
+use Rattle.worker_pool.specs.RunHistory.{own_history}
+use Rattle.worker_pool.specs.RunEnds.{HasNothing, HasWritten}
 use Rattle.run_gated.specs.Records.{AreAnswers, AreOfMode, FirstIs, FirstIsNo, OnlyNo}
 use Rattle.run_gated.specs.Seen.{AreQuiet, CallFailed, GateFailed, IsQuiet, NoneFailed}
 use Rattle.run_gated.specs.Run.{Run}

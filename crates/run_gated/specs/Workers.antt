@@ -7,11 +7,11 @@ use Rattle.reduce_journal.specs.declared.event.Event.TheVariants.{Committed, Rec
 use Rattle.reduce_journal.specs.History.{History}
 use Rattle.reduce_journal.specs.Journal.{head}
 use Rattle.reduce_journal.specs.declared.digest.Digest.{Digest}
-use Rattle.ordered_commit_moves.specs.Moves.{KeptVerdicts}
+use Rattle.ordered_commit.specs.Moves.{KeptVerdicts}
 use Rattle.ordered_commit.specs.Kept.{BrokeOff}
 use Rattle.std.specs.List.{range_with_len}
 use Rattle.worker_pool.specs.declared.worker.Worker.{Worker}
-use Rattle.run_worker.specs.RunEnds.{BrokeAtEnd, HasSameName}
+use Rattle.worker_pool.specs.RunEnds.{BrokeAtEnd, HasSameName}
 
 -- The workers are numbered from 1 in order, there are 1 to 16, and none has a seat.
 pub record AreIdle {G : Type 0} (workers : List (Worker G)) : Type 0 where

@@ -10,9 +10,9 @@ use Rattle.verdict_table.specs.TableState.{texts_of}
 use Rattle.reduce_step.specs.Plan.{Plan, End, Ask, after, height}
 use Rattle.reduce_journal.specs.History.{History}
 use Rattle.reduce_journal.specs.declared.event.Event.TheVariants.{Recorded, Committed}
-use Rattle.ordered_commit_moves.specs.Replay.{CommitsWhatIsAsked}
-use Rattle.ordered_commit_moves.specs.Moves.{KeptVerdicts}
-use Rattle.run_worker.specs.Sequential.{answer_events, by_verdict, number_for, records_after, sequential_from}
+use Rattle.ordered_commit.specs.Replay.{CommitsWhatIsAsked}
+use Rattle.ordered_commit.specs.Moves.{KeptVerdicts}
+use Rattle.worker_pool.specs.Sequential.{answer_events, by_verdict, number_for, records_after, sequential_from}
 use Rattle.run_problem.specs.Laws.{AnswersAreBounded, answer_count}
 use Rattle.run_problem.proofs.QuestionLemmas.{commits_are_few}
 

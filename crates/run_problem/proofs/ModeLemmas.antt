@@ -1,6 +1,5 @@
 -- What a run of a reducer says, in the words of the reduction of lines and of that of trees.
-use Rattle.std.proofs.Common.{◌≡◌, ◌≤◌, arith, ℕ, List, [], ◌∷◌, All, length, Option, IsSome, true}
-use Rattle.std.proofs.Common.{false, refl, sym, ap, ◌∙◌, subst, inr, Result, Ok, Err}
+use Rattle.std.proofs.Common.{◌≡◌, ◌≤◌, arith, ℕ, List, [], ◌∷◌, All, length, Option, IsSome, true, false, refl, sym, ap, ◌∙◌, subst, inr, Result, Ok, Err}
 use Rattle.std.proofs.lemmas.Bool.{false≢true}
 use Rattle.std.proofs.lemmas.List.{length-append}
 use Rattle.std.specs.List.{IsDistinct}
@@ -24,8 +23,8 @@ use Rattle.run_gated.specs.declared.fault.RunFault.TheVariants as run_fault
 use Rattle.run_gated.specs.declared.ran.Reduced.{Reduced}
 use Rattle.reduce_journal.specs.History.{History, asked_records_of, records_of}
 use Rattle.reduce_journal.specs.declared.counts.Counts.{Counts}
-use Rattle.ordered_commit_moves.specs.Moves.{KeptVerdicts}
-use Rattle.ordered_commit_moves.specs.Replay.{AllGoWith, IsLegal}
+use Rattle.ordered_commit.specs.Moves.{KeptVerdicts}
+use Rattle.ordered_commit.specs.Replay.{AllGoWith, IsLegal}
 use Rattle.run_gated.specs.Seen.{Reached, SeenGate, fault_counts_of, logs_of}
 use Rattle.run_gated.specs.Run.{Run}
 use Rattle.run_gated.specs.Records.{AreAnswers, AreAsked, AreOfMode, BeginsAt, FirstIs}

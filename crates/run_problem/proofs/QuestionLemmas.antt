@@ -12,10 +12,10 @@ use Rattle.verdict_table.proofs.Lent.{extends_itself}
 use Rattle.reduce_step.specs.Plan.{Plan, StepResult, End, Ask, HasEnded, after, height}
 use Rattle.reduce_journal.specs.History.{AllMayFollow, History, IsHistory, records_of}
 use Rattle.reduce_journal.specs.declared.event.Event.TheVariants.{Recorded, Committed}
-use Rattle.ordered_commit_moves.specs.Moves.{KeptVerdicts}
-use Rattle.ordered_commit_moves.specs.Replay.{CommitsWhatIsAsked, IsLegal, answered, record_at, replay, replay_from}
-use Rattle.ordered_commit_moves.proofs.Lent.{extends_at}
-use Rattle.run_worker.specs.Sequential.{answer_events, by_verdict, records_after, sequential_from}
+use Rattle.ordered_commit.specs.Moves.{KeptVerdicts}
+use Rattle.ordered_commit.specs.Replay.{CommitsWhatIsAsked, IsLegal, answered, record_at, replay, replay_from}
+use Rattle.ordered_commit.proofs.Lent.{extends_at}
+use Rattle.worker_pool.specs.Sequential.{answer_events, by_verdict, records_after, sequential_from}
 use Rattle.reduce_core.specs.Reduction.{Admits}
 use Rattle.reduce_rounds.specs.Trials.{Trials, Done, Try}
 use Rattle.reduce_rounds.specs.Mode.{RoundMode}

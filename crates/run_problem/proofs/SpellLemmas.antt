@@ -9,7 +9,7 @@ use Rattle.reduce_step.specs.Plan.{StepResult}
 use Rattle.reduce_step.specs.declared.mode.TreeMode.{TreeMode}
 use Rattle.reduce_journal.specs.History.{records_of}
 use Rattle.reduce_journal.specs.declared.counts.Counts.{Counts}
-use Rattle.ordered_commit_moves.specs.Replay.{IsLegal}
+use Rattle.ordered_commit.specs.Replay.{IsLegal}
 use Rattle.reduce_rounds.specs.ByTrials as trials
 use Rattle.reduce_rounds.specs.Laws.{EndsWell, IsTextOf, result_of}
 use Rattle.reduce_rounds.specs.Minimal.{IsMinimal}

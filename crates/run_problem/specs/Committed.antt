@@ -5,9 +5,9 @@ use Rattle.verdict_table.specs.declared.record.Record.{Record}
 use Rattle.verdict_table.specs.TableState.{verdict_in}
 use Rattle.reduce_journal.specs.History.{History, records_of}
 use Rattle.reduce_journal.specs.declared.event.Event.TheVariants.{Recorded, Committed}
-use Rattle.ordered_commit_moves.specs.Moves.{KeptVerdicts}
-use Rattle.ordered_commit_moves.specs.Replay.{record_at}
-use Rattle.run_worker.specs.Sequential.{answer_events, records_after}
+use Rattle.ordered_commit.specs.Moves.{KeptVerdicts}
+use Rattle.ordered_commit.specs.Replay.{record_at}
+use Rattle.worker_pool.specs.Sequential.{answer_events, records_after}
 use Rattle.reduce_core.specs.Reduction.{Admits}
 use Rattle.run_problem.specs.Problem.{Problem, questions_of}
 

@@ -8,13 +8,13 @@ use Rattle.verdict_table.specs.TableState.{texts_of, verdict_in}
 use Rattle.reduce_journal.specs.declared.counts.Counts.{Counts}
 use Rattle.reduce_journal.specs.History.{History, IsHistory, records_of}
 use Rattle.reduce_journal.specs.declared.event.Event.TheVariants.{Recorded, Committed}
-use Rattle.ordered_commit_moves.specs.Replay.{IsLegal, replay}
+use Rattle.ordered_commit.specs.Replay.{IsLegal, replay}
 use Rattle.reduce_step.specs.Plan.{HasEnded, Plan, height}
 use Rattle.reduce_rounds.specs.Laws.{AgreeingMapsReduceAlike}
 use Rattle.reduce_rounds.specs.Verdicts.{Agree}
-use Rattle.ordered_commit_moves.specs.Moves.{KeptVerdicts}
-use Rattle.run_worker.specs.RunHistory.{own_history}
-use Rattle.run_worker.specs.Sequential.{sequential_history}
+use Rattle.ordered_commit.specs.Moves.{KeptVerdicts}
+use Rattle.worker_pool.specs.RunHistory.{own_history}
+use Rattle.worker_pool.specs.Sequential.{sequential_history}
 use Rattle.reduce_core.specs.Reduction.{Admits}
 use Rattle.run_problem.specs.Problem.{IsProblem, Problem, recursion_of}
 use Rattle.run_problem.specs.Reducer.{reducer_of}

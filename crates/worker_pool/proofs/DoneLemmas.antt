@@ -16,8 +16,8 @@ use Rattle.ordered_commit.specs.declared.seat.Seat.{Seat}
 use Rattle.ordered_commit.specs.Kept.{IsOfWorker}
 use Rattle.ordered_commit.specs.Seats.{Agrees, new_seat, new_seats, seat_of}
 use Rattle.ordered_commit.proofs.Lent.{new_counted, new_length, new_numbered}
-use Rattle.run_worker.specs.RunHistory.{with_all_asked}
-use Rattle.run_worker.proofs.Lent.{none_asked}
+use Rattle.worker_pool.specs.RunHistory.{with_all_asked}
+use Rattle.worker_pool.proofs.EndLemmas.{none_asked}
 use Rattle.worker_pool.specs.declared.worker.Worker.{Worker}
 use Rattle.worker_pool.specs.Ends.{AreDone, IsDone}
 use Rattle.worker_pool.specs.inner.Ends.{HasDone}

@@ -6,7 +6,7 @@ use Rattle.std.proofs.lemmas.List.Elements.{All-head, All-tail}
 use Rattle.std.specs.List.{cons_option}
 use Rattle.verdict_table.specs.declared.table.Claim.{Claim}
 use Rattle.reduce_step.specs.Plan.{Plan, asked}
-use Rattle.ordered_commit_moves.specs.Moves.{OpenClaim, text_of_worker}
+use Rattle.ordered_commit.specs.Moves.{OpenClaim, text_of_worker}
 use Rattle.ordered_commit.specs.declared.seat.Seat.{Seat}
 use Rattle.ordered_commit.specs.Seats.{Agrees, SameForOthers, claims_held, is_claim, seat_of, with_seat}
 use Rattle.ordered_commit.specs.BoardState.{BoardState, claim_by, held_claim, held_claims}

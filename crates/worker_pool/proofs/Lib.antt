@@ -1,3 +1,12 @@
+mod SequentialLemmas
+mod BeginLemmas
+mod WrittenLemmas
+mod CallLemmas
+mod AskLemmas
+mod LeftLemmas
+mod AnswerLemmas
+mod NewLemmas
+mod EndLemmas
 mod StartLemmas
 mod RunLemmas
 mod WorkLemmas
@@ -5,3 +14,4 @@ mod FinishLemmas
 mod PoolLemmas
 mod DoneLemmas
 mod OutcomeLemmas
+pub mod Lent

@@ -14,15 +14,15 @@ use Rattle.verdict_table.specs.TableState.{verdict_in}
 use Rattle.reduce_journal.specs.History.{History, records_of}
 use Rattle.reduce_journal.specs.Journal.{journal_text}
 use Rattle.reduce_journal.specs.declared.digest.Digest.{Digest}
-use Rattle.ordered_commit_moves.specs.Replay.{replay}
+use Rattle.ordered_commit.specs.Replay.{replay}
 use Rattle.ordered_commit.specs.declared.fault.PoolFault.{PoolFault}
 use Rattle.ordered_commit.specs.declared.fault.PoolFault.TheVariants.{Journal, Memory, Script}
 use Rattle.ordered_commit.specs.declared.outcome.Outcome.{Outcome}
 use Rattle.ordered_commit.specs.BoardState.{BoardState}
 use Rattle.ordered_commit.specs.Kept.{BeginsWithin, IsJournal, IsKept}
 use Rattle.ordered_commit.specs.Made.{new_board}
-use Rattle.run_worker.specs.RunHistory.{BeginsWith}
-use Rattle.run_worker.specs.RunEnds.{IsCaused, ReducerEnds}
+use Rattle.worker_pool.specs.RunHistory.{BeginsWith}
+use Rattle.worker_pool.specs.RunEnds.{IsCaused, ReducerEnds}
 use Rattle.worker_pool.specs.declared.worker.Worker.{Worker}
 use Rattle.worker_pool.specs.Ends.{IsOfOne}
 use Rattle.worker_pool.specs.Runs.{RunMembers}

@@ -17,9 +17,9 @@ use Rattle.verdict_table.specs.declared.table.Claim.{Claim}
 use Rattle.verdict_table.specs.TableState.{TableState, all_texts, claimed_texts, other_claims, text_claimed, texts_of, verdict_in}
 use Rattle.verdict_table.proofs.Lent.{extends_itself, absent_everywhere}
 use Rattle.reduce_journal.specs.History.{records_of}
-use Rattle.ordered_commit_moves.specs.Moves.{kept_of}
-use Rattle.ordered_commit_moves.specs.Replay.{replay}
-use Rattle.ordered_commit_moves.proofs.Lent.{kept_found}
+use Rattle.ordered_commit.specs.Moves.{kept_of}
+use Rattle.ordered_commit.specs.Replay.{replay}
+use Rattle.ordered_commit.proofs.Lent.{kept_found, leads_on, find_passes, first_absent, next_free, nothing_committed}
 use Rattle.ordered_commit.specs.declared.seat.Seat.{Seat}
 use Rattle.ordered_commit.specs.BoardState.{BoardState, CanRecall, IsSettled}
 use Rattle.ordered_commit.specs.inner.Claiming.{is_free}
@@ -27,9 +27,9 @@ use Rattle.ordered_commit.specs.Kept.{BeginsWithin, IsKept}
 use Rattle.ordered_commit.specs.RecallEnds.{with_kept_record}
 use Rattle.ordered_commit.specs.RecordEnds.{with_filled}
 use Rattle.ordered_commit.specs.TakeEnds.{IsClaimed, with_claimed}
-use Rattle.ordered_commit.proofs.Lent.{leads_on, find_passes, first_absent, next_free, nothing_committed}
-use Rattle.run_worker.specs.RunHistory.{BeginsWith, EndsAtFirst}
-use Rattle.run_worker.proofs.Lent.{no_verdict_of, unrecorded}
+use Rattle.worker_pool.specs.RunHistory.{BeginsWith, EndsAtFirst}
+use Rattle.worker_pool.proofs.LeftLemmas.{no_verdict_of}
+use Rattle.worker_pool.proofs.AskLemmas.{unrecorded}
 use Rattle.worker_pool.specs.inner.Runs.{AtStart, StartsAlone}
 
 -- ---- what is ahead of such a reducer

@@ -15,7 +15,7 @@ use Rattle.ordered_commit.specs.declared.take.Take.{Take}
 use Rattle.ordered_commit.specs.declared.take.Take.TheVariants.{Work, NotYet, Done, Stopped}
 use Rattle.ordered_commit.specs.BoardState.{BoardState}
 use Rattle.ordered_commit.specs.TakeEnds.{TakeEnds}
-use Rattle.run_worker.specs.RunHistory.{with_all_asked}
+use Rattle.worker_pool.specs.RunHistory.{with_all_asked}
 use Rattle.worker_pool.specs.inner.Work.{HasWorked}
 
 -- a count that rose, and then doesn't fall, rose

@@ -10,14 +10,14 @@ use Rattle.reduce_step.specs.Ahead.{ahead}
 use Rattle.reduce_step.specs.Plan.{HasEnded, Plan, after, follow}
 use Rattle.verdict_table.specs.TableState.{texts_of, verdict_in}
 use Rattle.reduce_journal.specs.History.{History, asked_records_of, records_of}
-use Rattle.ordered_commit_moves.specs.Replay.{replay}
+use Rattle.ordered_commit.specs.Replay.{replay}
 use Rattle.ordered_commit.specs.declared.fault.PoolFault.{PoolFault}
 use Rattle.ordered_commit.specs.declared.fault.PoolFault.TheVariants.{Journal, Script}
 use Rattle.ordered_commit.specs.declared.outcome.Outcome.{Outcome}
 use Rattle.ordered_commit.specs.Kept.{BeginsWithin, BrokeWhereDue, IsJournal}
-use Rattle.run_worker.specs.RunHistory.{BeginsWith, EndsAtFirst, IsHistoryOf, IsSequential, with_all_asked}
-use Rattle.run_worker.specs.RunEnds.{IsCaused, ReducerEnds}
-use Rattle.run_worker.specs.UnderWay.{AreJournalBytes}
+use Rattle.worker_pool.specs.RunHistory.{BeginsWith, EndsAtFirst, IsHistoryOf, IsSequential, with_all_asked}
+use Rattle.worker_pool.specs.RunEnds.{IsCaused, ReducerEnds}
+use Rattle.worker_pool.specs.UnderWay.{AreJournalBytes}
 use Rattle.worker_pool.specs.declared.worker.Worker.{Worker}
 use Rattle.worker_pool.specs.Runs.{RunMembers}
 

@@ -1,3 +1,5 @@
+pub mod RunEnds
+pub mod UnderWay
 pub mod Runs
 pub mod Work
 pub mod Ends

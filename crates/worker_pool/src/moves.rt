@@ -4,7 +4,7 @@ ghost use Rattle.std.specs.Prelude.{◌≡◌, ◌<◌, None, Some, IfOk, IsFals
 ghost use Rattle.ordered_commit.specs.BoardState.{Holds, IsSettled};
 ghost use Rattle.ordered_commit.specs.Seats.{Agrees, SameForOthers, with_record, with_seat, without_claim};
 ghost use Rattle.ordered_commit.specs.TakeEnds.{IsShown};
-ghost use Rattle.run_worker.specs.inner.UnderWay.{moves_left};
+ghost use Rattle.worker_pool.specs.inner.UnderWay.{moves_left};
 ghost use Rattle.worker_pool.specs.Runs.{RunMembers};
 ghost use Rattle.worker_pool.specs.inner.Runs.{IsOfRun};
 ghost use Rattle.worker_pool.specs.inner.Work.{TakesSeat};

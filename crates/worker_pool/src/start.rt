@@ -6,6 +6,7 @@ ghost use Rattle.ordered_commit.specs.Seats.{new_seats};
 ghost use Rattle.worker_pool.specs.Ends.{AreDone, IsOfOne, IsOutcome};
 ghost use Rattle.worker_pool.specs.Runs.{members};
 
+use crate::alone::run_alone;
 use crate::pool::run_several;
 use crate::worker::Worker;
 use edge_io::Sink;
@@ -13,7 +14,6 @@ use faults::Memory;
 use gate_permits::Texts;
 use ordered_commit::{Board, Outcome, PoolFault, Seat};
 use reduce_step::Step;
-use run_worker::run_alone;
 use script_gate_trait::Gate;
 use std::sync::Wait;
 use std::thread::Threads;

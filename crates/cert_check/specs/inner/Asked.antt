@@ -4,7 +4,7 @@ use Rattle.script_gate_trait.specs.declared.gate.Verdict.{Verdict}
 use Rattle.verdict_table.specs.declared.record.Record.{Record}
 use Rattle.verdict_table.specs.TableState.{verdict_in}
 use Rattle.reduce_step.specs.Plan.{MayAsk, Plan}
-use Rattle.ordered_commit_moves.specs.Replay.{record_at}
+use Rattle.ordered_commit.specs.Replay.{record_at}
 
 -- What was found of what is asked: its record, by its number, and the verdict, which the records have on it; or nothing is asked, or a text without record.
 abbrev pub IsRecordOf : Option (List ℕ) → List Record → Option (ℕ × Verdict) → Type 0

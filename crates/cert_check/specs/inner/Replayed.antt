@@ -5,7 +5,7 @@ use Rattle.verdict_table.specs.declared.found.Found.TheVariants.{Absent, Claimed
 use Rattle.verdict_table.specs.TableState.{TableState}
 use Rattle.reduce_step.specs.Plan.{Plan}
 use Rattle.reduce_journal.specs.History.{History, records_of}
-use Rattle.ordered_commit_moves.specs.Replay.{IsLegal, replay}
+use Rattle.ordered_commit.specs.Replay.{IsLegal, replay}
 use Rattle.cert_check.specs.inner.Asked.{MarkedMayBeAsked}
 
 -- nothing was found

@@ -6,7 +6,7 @@ use Rattle.script_gate_trait.specs.declared.log.Log.{Log}
 use Rattle.verdict_table.specs.TableState.{verdict_in}
 use Rattle.reduce_journal.specs.History.{History}
 use Rattle.reduce_journal.specs.declared.digest.Digest.{Digest}
-use Rattle.ordered_commit_moves.specs.Moves.{KeptVerdicts}
+use Rattle.ordered_commit.specs.Moves.{KeptVerdicts}
 use Rattle.run_gated.specs.Faults.{fault_of}
 use Rattle.run_gated.specs.Records.{AreAnswers}
 use Rattle.run_gated.specs.Run.{Run}

@@ -7,12 +7,12 @@ use Rattle.reduce_step.specs.Plan.{HasEnded, Plan, after, asked, follow}
 use Rattle.verdict_table.specs.TableState.{texts_of, verdict_in}
 use Rattle.reduce_journal.specs.History.{History, asked_records_of, records_of}
 use Rattle.reduce_journal.specs.declared.digest.Digest.{Digest}
-use Rattle.ordered_commit_moves.specs.Moves.{KeptVerdicts}
-use Rattle.ordered_commit_moves.specs.Replay.{replay}
+use Rattle.ordered_commit.specs.Moves.{KeptVerdicts}
+use Rattle.ordered_commit.specs.Replay.{replay}
 use Rattle.ordered_commit.specs.declared.fault.PoolFault.{PoolFault}
 use Rattle.ordered_commit.specs.declared.fault.PoolFault.TheVariants.{Script, Journal, Memory}
-use Rattle.run_worker.specs.RunHistory.{BeginsWith, EndsAtFirst, IsHistoryOf, IsSequential}
-use Rattle.run_worker.specs.RunEnds.{HasNothing, HasWritten}
+use Rattle.worker_pool.specs.RunHistory.{BeginsWith, EndsAtFirst, IsHistoryOf, IsSequential}
+use Rattle.worker_pool.specs.RunEnds.{HasNothing, HasWritten}
 use Rattle.run_gated.specs.Records.{AreAsked}
 use Rattle.run_gated.specs.Seen.{AreQuiet, CallFailed, GateFailed, IsQuiet, NoneFailed, Reached, SeenGate, logs_of}
 use Rattle.run_gated.specs.Workers.{HasPartBy}

@@ -8,7 +8,7 @@ use Rattle.ordered_commit.specs.declared.seat.Seat.{Seat}
 use Rattle.ordered_commit.specs.declared.take.Take.{Take}
 use Rattle.ordered_commit.specs.declared.take.Take.TheVariants.{Work, NotYet, Done, Stopped}
 use Rattle.ordered_commit.specs.Seats.{with_claim}
-use Rattle.run_worker.specs.RunHistory.{with_all_asked}
+use Rattle.worker_pool.specs.RunHistory.{with_all_asked}
 
 -- the seat has the claim that was taken, if one was
 abbrev pub TakesSeat : Result Take Memory → Seat → Seat → Type 0

@@ -1,5 +1,5 @@
 use Rattle.std.proofs.Common.{◌≡◌}
-use Rattle.run_worker.specs.inner.UnderWay.{moves_left}
+use Rattle.worker_pool.specs.inner.UnderWay.{moves_left}
 use Rattle.worker_pool.specs.Runs.{RunMembers}
 use Rattle.worker_pool.specs.inner.Runs.{IsOfRun}
 use Rattle.worker_pool.proofs.moves.commit_all.Given as goal

@@ -1,5 +1,5 @@
 use Rattle.std.proofs.Common.{arith, sym, ◌∙◌}
-use Rattle.run_worker.proofs.Lent.{fewer_by_commit, fewer_by_recall, made, most_by_recall, settled_by}
+use Rattle.worker_pool.proofs.LeftLemmas.{fewer_by_commit, fewer_by_recall, made, most_by_recall, settled_by}
 use Rattle.worker_pool.proofs.RunLemmas.{run_commit, run_recall}
 use Rattle.worker_pool.proofs.moves.recall_or_commit.Goals as goal
 

@@ -5,7 +5,7 @@ use Rattle.reduce_step.specs.Ahead.{ahead}
 use Rattle.reduce_step.specs.Plan.{HasEnded, Plan, follow}
 use Rattle.verdict_table.specs.TableState.{verdict_in}
 use Rattle.reduce_journal.specs.History.{History, asked_records_of, records_of}
-use Rattle.ordered_commit_moves.specs.Replay.{replay}
+use Rattle.ordered_commit.specs.Replay.{replay}
 use Rattle.ordered_commit.specs.declared.fault.PoolFault.{PoolFault}
 use Rattle.ordered_commit.specs.Kept.{BeginsWithin, BrokeWhereDue, IsJournal, IsOfWorker}
 use Rattle.ordered_commit.specs.Seats.{AreFreeSeats, new_seat}
@@ -15,11 +15,11 @@ use Rattle.worker_pool.proofs.DoneLemmas.{each_done, named_by, records_made}
 use Rattle.worker_pool.proofs.OutcomeLemmas.{begins_of}
 use Rattle.worker_pool.proofs.PoolLemmas.{lent, new_empty}
 use Rattle.worker_pool.proofs.RunLemmas.{Unfailed}
-use Rattle.run_worker.specs.RunHistory.{BeginsWith, EndsAtFirst, IsHistoryOf}
+use Rattle.worker_pool.specs.RunHistory.{BeginsWith, EndsAtFirst, IsHistoryOf}
 use Rattle.worker_pool.specs.inner.Runs.{AtStart}
 use Rattle.worker_pool.proofs.StartLemmas.{begins_with, ends_alone}
 use Rattle.ordered_commit.proofs.Lent.{new_length}
-use Rattle.run_worker.proofs.Lent.{kept_history}
+use Rattle.worker_pool.proofs.EndLemmas.{kept_history}
 use Rattle.worker_pool.proofs.pool.run_several.Goals as goal
 
 pub run_named-board-requires-clause-of_run : goal.run_named-board-requires-clause-of_run

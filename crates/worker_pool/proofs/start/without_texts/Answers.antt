@@ -8,8 +8,8 @@ use Rattle.ordered_commit.specs.declared.fault.PoolFault.TheVariants.{Memory}
 use Rattle.ordered_commit.specs.Kept.{IsJournal}
 use Rattle.ordered_commit.specs.Seats.{AreFreeSeats, new_seats}
 use Rattle.ordered_commit.proofs.Lent.{new_are_free}
-use Rattle.run_worker.specs.RunHistory.{BeginsWith, EndsAtFirst, with_all_asked}
-use Rattle.run_worker.proofs.Lent.{none_asked, none_history, none_sequential}
+use Rattle.worker_pool.specs.RunHistory.{BeginsWith, EndsAtFirst, with_all_asked}
+use Rattle.worker_pool.proofs.EndLemmas.{none_asked, none_history, none_sequential}
 use Rattle.worker_pool.proofs.DoneLemmas.{none_done}
 use Rattle.worker_pool.proofs.OutcomeLemmas.{begins_none, new_head, no_history}
 use Rattle.worker_pool.proofs.start.without_texts.Goals as goal

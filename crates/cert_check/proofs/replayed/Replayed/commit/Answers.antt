@@ -1,7 +1,7 @@
 use Rattle.std.proofs.Common.{ℕ, ap, ◌∙◌, sym, subst}
 use Rattle.verdict_table.specs.declared.record.Record.{Record}
 use Rattle.reduce_step.specs.Plan.{Plan, asked}
-use Rattle.ordered_commit_moves.specs.Replay.{record_at}
+use Rattle.ordered_commit.specs.Replay.{record_at}
 use Rattle.cert_check.specs.inner.Asked.{IsRecordOf}
 use Rattle.cert_check.proofs.AlongRecords.{nothing, some_asked}
 use Rattle.cert_check.proofs.Numbered.{not_zero}

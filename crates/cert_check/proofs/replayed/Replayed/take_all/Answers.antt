@@ -2,7 +2,7 @@ use Rattle.std.proofs.Common.{◌++◌, ◌∷◌, [], List, subst, sym, take, �
 use Rattle.std.proofs.lemmas.List.{take_all, take_more}
 use Rattle.reduce_journal.specs.declared.event.Event.{Event}
 use Rattle.cert_check.specs.inner.Replayed.{IsReplayed}
-use Rattle.ordered_commit_moves.specs.Replay.{IsLegal}
+use Rattle.ordered_commit.specs.Replay.{IsLegal}
 use Rattle.cert_check.proofs.Refusing.{first_illegal}
 use Rattle.cert_check.proofs.replayed.Replayed.take_all.Goals as goal
 
