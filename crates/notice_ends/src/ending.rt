@@ -1,14 +1,11 @@
 //! What is said at the end, by status.
 
 use crate::files::{add_failure, add_run_too_long, add_too_long};
-use crate::grammar::GrammarFiles;
-use crate::input::{add_no_parse, add_no_tokens};
-use crate::quote::Quoted;
 use crate::script::{LastAsk, add_fault, add_no};
-use crate::text_file::TextFile;
 use command_words::{CheckLine, CommandLine, ModeLine, NamedGrammar, ReduceLine};
 use memchr::memmem;
 use notice_counts::{Snapshot, TimeText, milliseconds_in};
+use notice_places::{GrammarFiles, Quoted, TextFile, add_no_parse, add_no_tokens};
 use std::alloc::{AllocError, Global};
 use std::io;
 use std::time::Duration;

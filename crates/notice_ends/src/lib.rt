@@ -7,12 +7,7 @@
 
 mod ending;
 mod files;
-mod following;
-mod grammar;
-mod input;
-mod quote;
 mod script;
-mod text_file;
 mod warning;
 
 pub use ending::{Ending, Reasons, ending_text};

@@ -1,6 +1,6 @@
 //! Scripts that can't be asked, or say no to the start.
 
-use crate::quote::Quoted;
+use notice_places::Quoted;
 use script_gate::{ScriptCall, ScriptFault};
 use std::alloc::AllocError;
 use std::io;

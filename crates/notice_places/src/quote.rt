@@ -2,7 +2,7 @@ use std::fmt;
 
 /// A word as a shell takes it: between quotes, where it has other characters than those of plain names.
 #[derive(Clone, Copy, Debug)]
-pub(crate) struct Quoted<'a>(pub(crate) &'a str);
+pub struct Quoted<'a>(pub &'a str);
 
 /// Whether a shell takes the byte as it is.
 fn is_plain(byte: u8) -> bool {

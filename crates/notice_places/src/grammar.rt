@@ -210,13 +210,13 @@ fn add_pair(
 
 /// A grammar as it was read.
 #[derive(Clone, Copy, Debug)]
-pub(crate) struct GrammarFiles<'a> {
+pub struct GrammarFiles<'a> {
     /// Its file, or that of its parser rules.
-    pub(crate) file: TextFile<'a>,
+    pub file: TextFile<'a>,
     /// That of its lexer rules, where it is in two.
-    pub(crate) lexer: Option<TextFile<'a>>,
+    pub lexer: Option<TextFile<'a>>,
     /// The name of its start rule; none where it is the first parser rule.
-    pub(crate) start: Option<&'a str>,
+    pub start: Option<&'a str>,
 }
 
 impl GrammarFiles<'_> {
@@ -242,7 +242,7 @@ impl GrammarFiles<'_> {
 
     /// Which limit it passes, where its lexer or the table of its symbols can't be made again once the run
     /// has ended.
-    pub(crate) fn add_limit(&self, text: &mut String, alloc: Global) -> Result<(), AllocError> {
+    pub fn add_limit(&self, text: &mut String, alloc: Global) -> Result<(), AllocError> {
         let Some(checked) = self.checked(alloc) else {
             return Ok(());
         };
@@ -270,7 +270,7 @@ impl GrammarFiles<'_> {
     }
 
     /// What is wrong with it.
-    pub(crate) fn add_fault(&self, text: &mut String, alloc: Global) -> Result<(), AllocError> {
+    pub fn add_fault(&self, text: &mut String, alloc: Global) -> Result<(), AllocError> {
         if self.file.is_too_long() {
             return Ok(());
         }

@@ -1,6 +1,6 @@
 ghost use Rattle.std.specs.Prelude.{◌≡◌, ◌≤◌, length, false};
 
-use notice_places::excerpt_at;
+use crate::excerpt::excerpt_at;
 use std::alloc::{AllocError, Global};
 use std::fmt::Display;
 
@@ -9,13 +9,13 @@ pub(crate) const MOST_BYTES: usize = 1_048_576;
 
 /// A file as it was read.
 #[derive(Clone, Copy, Debug)]
-pub(crate) struct TextFile<'a> {
+pub struct TextFile<'a> {
     /// Its path.
-    pub(crate) path: &'a str,
+    pub path: &'a str,
     /// Its bytes.
-    pub(crate) bytes: &'a [u8],
+    pub bytes: &'a [u8],
     /// The columns that a line of it is shown in.
-    pub(crate) width: usize,
+    pub width: usize,
 }
 
 impl TextFile<'_> {

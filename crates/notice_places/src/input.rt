@@ -22,7 +22,7 @@ fn offset_of(fault: &InputFault) -> Option<usize> {
 }
 
 /// Why an input isn't cut into tokens, and where.
-pub(crate) fn add_no_tokens(
+pub fn add_no_tokens(
     text: &mut String,
     alloc: Global,
     grammar: GrammarFiles<'_>,
@@ -117,7 +117,7 @@ fn add_stop(
 
 /// Why the start rule doesn't derive an input: the first token that can't follow, and what could. Where
 /// this can't be found, only that it doesn't.
-pub(crate) fn add_no_parse(
+pub fn add_no_parse(
     text: &mut String,
     alloc: Global,
     grammar: GrammarFiles<'_>,
