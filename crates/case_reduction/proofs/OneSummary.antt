@@ -9,7 +9,7 @@ use Rattle.reduce_trees_input.specs.Parsed.{IsInputOf}
 use Rattle.reduce_trees_input.specs.Laws.{InputsAreOne}
 use Rattle.case_maker.specs.Cases.{case_text}
 use Rattle.case_maker.specs.Mini.{mini_text}
-use Rattle.case_language.specs.Mini.{mini}
+use Rattle.case_reduction.specs.Mini.{mini}
 use Rattle.reduce_trees_mode.specs.Input.{TreeInput}
 use Rattle.reduce_step.specs.declared.mode.TreeMode.{TreeMode}
 use Rattle.run_problem.specs.Problem.{Problem, questions_of}

@@ -30,7 +30,7 @@ use Rattle.run_problem.specs.Ends.{IsRunOf, ProblemEnds, ReducesFrom, RunFails}
 use Rattle.run_problem.specs.Read.{IsReadAs}
 use Rattle.run_problem.specs.declared.problem.ReadProblem.{ReadProblem}
 use Rattle.worker_pool.specs.declared.worker.Worker.{Worker}
-use Rattle.case_language.specs.Laws.{CasesGetYes}
+use Rattle.case_reduction.specs.LanguageLaws.{CasesGetYes}
 use Rattle.reduce_journal.specs.Report.{first_lines}
 use Rattle.case_reduction.specs.Summary.{IsCaseProblem, IsSummary, admits_all}
 use Rattle.case_reduction.proofs.Alike.{BySaid, by_rule, over_each}

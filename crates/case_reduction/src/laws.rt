@@ -3,7 +3,7 @@
 
 ghost use Rattle.case_reduction.specs.Laws.{SummariesAreOne};
 
-use case_language::mini_is_spelled;
+use crate::language_laws::mini_is_spelled;
 use reduce_trees_input::inputs_are_one;
 
 /// A program has one summary at most in a mode.

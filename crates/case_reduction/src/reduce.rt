@@ -9,8 +9,8 @@ ghost use Rattle.run_problem.specs.Problem.{Problem};
 ghost use Rattle.run_problem.specs.Read.{IsReadAs, IsReady};
 ghost use Rattle.case_reduction.specs.Summary.{IsCaseProblem, IsSummary, admits_all};
 
+use crate::language_laws::{cases_are_in_language, cases_get_yes, mini_is_spelled};
 use crate::summary::summary;
-use case_language::{cases_are_in_language, cases_get_yes, mini_is_spelled};
 use case_maker::{cases_are_short, make_case, mini_grammar};
 use edge_io::NullSink;
 use faults::Memory;

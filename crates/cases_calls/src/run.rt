@@ -11,7 +11,7 @@ use script_gate_trait::{Gate, GateFault, ListGate, Log, RuleGate};
 use std::alloc::Global;
 use std::sync::{Arc, Wait};
 use std::thread::Threads;
-use test_gates::{HoldCount, HoldGate};
+use test_workers::{HoldCount, HoldGate};
 use worker_pool::Worker;
 
 /// How many workers there are, of which a run uses as many as its words say.

@@ -1,0 +1,4 @@
+pub mod Patterns
+pub mod View
+pub mod Positions
+pub mod Spelled

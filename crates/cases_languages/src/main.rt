@@ -6,15 +6,28 @@
 //! `grammar NAME START` the same with that rule as its start. In a text `%` and two hexadecimal digits
 //! are a byte, as `%0A` for a newline. The answers in `stdout` are worked out by hand from the
 //! definitions; none comes from a run.
+//!
+//! Which texts the terms and rules of a lexer match, plain and slow programs decide (`lexer_rules`), as
+//! the definitions of `grammar_tree` say, also in grammars that no lexer is built of: with rules that use
+//! themselves or each other, and with several rules of a name. Read `Matches` in `grammar_tree` first,
+//! then `Spans` in `specs/Patterns.antt`. Terms are seen as patterns over lists of characters. A table
+//! (`chart`) has from where to where each rule is known to span in the list; it grows by the rules' bodies
+//! until nothing more is found. For a list of n characters and r rules at most r (n + 1)^2 rounds find
+//! more, each over all rules and positions, so it is for small inputs. It recurses as deep as the patterns
+//! do.
 #![tactic(auto)]
 
 mod bounds;
+mod chart;
 mod checks;
 mod forms;
 mod kinds;
+mod lexer_rules;
 mod lexing;
 mod matching;
+mod pattern;
 mod pieces;
+mod positions;
 mod sets;
 
 use crate::bounds::{blocks_shown, built_shown, chain_shown};

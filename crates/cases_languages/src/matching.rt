@@ -1,9 +1,9 @@
 //! Texts that lexer rules and their terms match. The grammars are read and not checked.
 
+use crate::lexer_rules::{matches, matches_rule};
 use anyhow::{Result, bail};
 use grammar_reader::read_grammar;
 use grammar_tree::{Grammar, LexAlts, Rule, Text};
-use plain_matches::{matches, matches_rule};
 use std::alloc::Global;
 
 /// A grammar with the rules that come before `=>` in the text, and what comes after it.

@@ -3,11 +3,18 @@
 //!
 //! A line is a question and a text, with a blank between. `grammar NAME` takes the grammar of that
 //! name, or in the file NAME, for the questions after it, which are those of [`answer`]. The answers
-//! in `stdout` are worked out by hand from the definitions; none comes from a run.
+//! in `stdout` are worked out by hand from the definitions; none comes from a run. `compare` takes two
+//! lengths and a grammar: on all short lists of its kinds the parser is compared with a plain one that
+//! tries all trees (`compare`), and the numbers in `stdout` are counted from the grammars.
 #![tactic(auto)]
 
+mod compare;
+mod lists;
+mod plain;
+mod prefixes;
 mod showing;
 
+use crate::compare::compared_shown;
 use crate::showing::{ends_shown, file_shown, nested_shown, tree_shown};
 use anyhow::{Result, bail};
 use cases_answers::Language;
@@ -24,6 +31,7 @@ fn answer(
     text: &str,
 ) -> Result<String> {
     match question {
+        "compare" => compared_shown(alloc, text),
         "tree" => tree_shown(alloc, language, text),
         "ends" => ends_shown(alloc, language, text),
         "nested" => nested_shown(alloc, language, text),

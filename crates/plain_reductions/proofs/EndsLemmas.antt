@@ -11,7 +11,7 @@ use Rattle.script_gate_trait.specs.declared.gate.Verdict.{Verdict}
 use Rattle.reduce_step.specs.Plan.{End, StepResult, follow}
 use Rattle.reduce_rounds.specs.RoundsPlan.{plan_first}
 use Rattle.reduce_trees_mode.specs.Input.{TreeInput}
-use Rattle.plain_reducer.specs.declared.reduction.Mode.{Mode}
+use Rattle.plain_reductions.specs.declared.reduction.Mode.{Mode}
 use Rattle.plain_reductions.specs.Found.{IsFound}
 use Rattle.plain_reductions.specs.RoundsOf.{rounds_of}
 use Rattle.plain_reductions.specs.Ends.{EndsAs}

@@ -5,7 +5,7 @@ use Rattle.script_gate_trait.specs.declared.gate.Verdict.{Verdict}
 use Rattle.reduce_step.specs.Plan.{End, StepResult, follow}
 use Rattle.reduce_rounds.specs.RoundsPlan.{plan_first}
 use Rattle.reduce_trees_mode.specs.Input.{TreeInput}
-use Rattle.plain_reducer.specs.declared.reduction.Mode.{Mode}
+use Rattle.plain_reductions.specs.declared.reduction.Mode.{Mode}
 use Rattle.plain_reductions.specs.RoundsOf.{rounds_of}
 
 -- what is known of a mode is known of the one that is present

@@ -1,3 +1,4 @@
+mod GrowingLists
 mod FoundLemmas
 mod InMode
 mod EndsLemmas

@@ -3,8 +3,8 @@ use Rattle.reduce_rounds.specs.Mode.{RoundMode}
 use Rattle.reduce_trees_mode.specs.Input.{TreeInput, TreeState}
 use Rattle.reduce_trees.specs.HddMode.{hdd_mode}
 use Rattle.reduce_trees.specs.PersesMode.{perses_mode}
-use Rattle.plain_reducer.specs.declared.reduction.Mode.{Mode}
-use Rattle.plain_reducer.specs.declared.reduction.Mode.TheVariants.{Perses, Hdd}
+use Rattle.plain_reductions.specs.declared.reduction.Mode.{Mode}
+use Rattle.plain_reductions.specs.declared.reduction.Mode.TheVariants.{Perses, Hdd}
 
 -- the reduction by rounds of this mode
 abbrev pub rounds_of : Mode → TreeInput → RoundMode TreeState

@@ -3,13 +3,14 @@ ghost use Rattle.reduce_step.specs.Plan.{End, asked, follow};
 ghost use Rattle.reduce_rounds.specs.RoundsPlan.{plan_first};
 ghost use Rattle.reduce_trees.specs.HddMode.{hdd_mode};
 ghost use Rattle.reduce_trees.specs.PersesMode.{perses_mode};
-ghost use Rattle.plain_reducer.specs.Results.{result_of};
-ghost use Rattle.plain_reducer.specs.Verdicts.{verdicts_by};
+ghost use Rattle.plain_reductions.specs.Results.{result_of};
+ghost use Rattle.plain_reductions.specs.Verdicts.{verdicts_by};
 ghost use Rattle.plain_reductions.specs.RoundsOf.{rounds_of};
 
+use crate::reduction::{Mode, Reduction};
+use crate::verdicts::VerdictRule;
 use faults::Memory;
 use keep_guard::Relation;
-use plain_reducer::{Mode, Reduction, VerdictRule};
 use reduce_rounds::ReducerStep;
 use reduce_step::Step;
 use reduce_trees::{HasInput, TreeParts, hdd_reducer, perses_reducer};

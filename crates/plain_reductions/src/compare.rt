@@ -1,16 +1,17 @@
 //! What both reducers make of a case.
 
 ghost use Rattle.std.specs.Prelude.{IfOk, IsTrue};
-ghost use Rattle.plain_reducer.specs.Results.{result_of};
-ghost use Rattle.plain_reducer.specs.Verdicts.{verdicts_by};
+ghost use Rattle.plain_reductions.specs.Results.{result_of};
+ghost use Rattle.plain_reductions.specs.Verdicts.{verdicts_by};
 ghost use Rattle.plain_reductions.specs.Ends.{EndsAs};
 
 use crate::agreement::agrees_with_plain;
 use crate::parts::{found, tree_parts};
+use crate::reduction::{Mode, Problem, Reduction, reduced};
+use crate::verdicts::VerdictRule;
 use compat_table::compat;
 use faults::Memory;
 use grammar_tree::Checked;
-use plain_reducer::{Mode, Problem, Reduction, VerdictRule, reduced};
 use reduce_trees_input::ParsedInput;
 use std::alloc::Global;
 

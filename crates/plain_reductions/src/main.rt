@@ -7,20 +7,29 @@
 //! The program prints these, or that they differ. What is in `stdout` is of a third reducer, which was
 //! written apart from the program, in another language.
 //!
-//! Read `plain_reducer/specs/Results.antt` first: where the two agree, the reduction in the mode
-//! (`specs/RoundsOf.antt`), followed over the rule's verdicts, ends with what the plain one comes to
-//! (`specs/Ends.antt`).
+//! The plain reducer (`reduction`) has the definitions of a reduction, a round of a mode and a list step,
+//! as loops over lists of the nodes that are left (`specs/Nodes.antt`). It answers its questions itself, by
+//! a rule (`specs/Verdicts.antt`), and keeps them. Each call on such a list copies what it gives, in a time
+//! that grows with the square of the tree.
+//!
+//! Read `specs/Results.antt` first: where the two agree, the reduction in the mode (`specs/RoundsOf.antt`),
+//! followed over the rule's verdicts, ends with what the plain one comes to (`specs/Ends.antt`).
 #![tactic(auto)]
 
 mod agreement;
 mod compare;
+mod list_parts;
+mod nodes;
 mod parts;
+mod reduction;
+mod texts;
+mod verdicts;
 
+use crate::reduction::Mode;
 use anyhow::Result;
 use compare::{Case, answer};
 use faults::Memory;
 use grammar_tree::Checked;
-use plain_reducer::Mode;
 use std::alloc::{AllocError, Global};
 use test_grammars::checked;
 

@@ -6,6 +6,8 @@
 
 ghost use Rattle.std.specs.Prelude.{◌≡◌, [], All, IfOk, IfSome, IsTrue, None};
 
+use crate::hold_count::HoldCount;
+use crate::hold_gate::HoldGate;
 use edge_io::{MemSink, Sink};
 use faults::{Limit, Memory};
 use keep_guard::{Guard, KeepTexts};
@@ -19,7 +21,6 @@ use std::alloc::Global;
 use std::sync::{Arc, Wait};
 use std::test::Fail;
 use std::thread::Threads;
-use test_gates::{HoldCount, HoldGate};
 use verdict_table::Kept;
 use worker_pool::{Worker, run_workers};
 

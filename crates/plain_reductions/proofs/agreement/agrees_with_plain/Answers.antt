@@ -1,7 +1,7 @@
 use Rattle.reduce_trees_mode.specs.InputOf.{input_of}
-use Rattle.plain_reducer.specs.Results.{result_of}
-use Rattle.plain_reducer.specs.Verdicts.{verdicts_by}
-use Rattle.plain_reducer.specs.declared.reduction.Mode.TheVariants.{Hdd, Perses}
+use Rattle.plain_reductions.specs.Results.{result_of}
+use Rattle.plain_reductions.specs.Verdicts.{verdicts_by}
+use Rattle.plain_reductions.specs.declared.reduction.Mode.TheVariants.{Hdd, Perses}
 use Rattle.plain_reductions.proofs.InMode.{in_present}
 use Rattle.plain_reductions.proofs.agreement.agrees_with_plain.Goals as goal
 

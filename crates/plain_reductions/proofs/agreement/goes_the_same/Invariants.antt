@@ -1,6 +1,6 @@
 use Rattle.std.proofs.Common.{◌≡◌}
 use Rattle.reduce_step.specs.Plan.{follow}
-use Rattle.plain_reducer.specs.Verdicts.{verdicts_by}
+use Rattle.plain_reductions.specs.Verdicts.{verdicts_by}
 use Rattle.plain_reductions.proofs.agreement.goes_the_same.Given as goal
 
 abbrev pub invariant-loop-question : goal.invariant-loop-question

@@ -1,5 +1,5 @@
-use Rattle.plain_reducer.specs.Results.{result_of}
-use Rattle.plain_reducer.specs.Verdicts.{verdicts_by}
+use Rattle.plain_reductions.specs.Results.{result_of}
+use Rattle.plain_reductions.specs.Verdicts.{verdicts_by}
 use Rattle.plain_reductions.proofs.EndsLemmas.{agreed}
 use Rattle.plain_reductions.proofs.compare.agrees.Goals as goal
 

@@ -1,5 +1,0 @@
-use Rattle.case_language.proofs.Profile.{all_in_language}
-use Rattle.case_language.proofs.laws.cases_are_in_language.Goals as goal
-
-pub returns : goal.returns
-returns c = all_in_language

@@ -1,5 +1,0 @@
-use Rattle.std.proofs.lemmas.Str.{IsCharBoundary-start}
-use Rattle.cases_pairs.proofs.spans_shown.Goals as goal
-
-pub loop-init : goal.loop-init
-loop-init c = IsCharBoundary-start c.args.text.now c.utf8.text

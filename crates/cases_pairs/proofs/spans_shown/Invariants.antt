@@ -1,6 +1,0 @@
-use Rattle.std.specs.Str.{IsCharBoundary}
-use Rattle.cases_pairs.proofs.spans_shown.Given as goal
-
--- a word begins at a character
-abbrev pub invariant-loop : goal.invariant-loop
-invariant-loop l = IsCharBoundary l.text l.at

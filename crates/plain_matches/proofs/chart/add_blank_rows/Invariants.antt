@@ -1,5 +1,0 @@
-use Rattle.plain_matches.specs.Positions.{AddsRows}
-use Rattle.plain_matches.proofs.chart.add_blank_rows.Given as goal
-
-abbrev pub invariant-loop-start : goal.invariant-loop-start
-invariant-loop-start l = AddsRows l.initial.rows.items l.rows.items l.rule l.count l.start

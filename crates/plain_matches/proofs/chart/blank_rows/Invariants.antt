@@ -1,5 +1,0 @@
-use Rattle.plain_matches.specs.Positions.{AreRows, IsBlank}
-use Rattle.plain_matches.proofs.chart.blank_rows.Given as goal
-
-abbrev pub invariant-loop-rule : goal.invariant-loop-rule
-invariant-loop-rule l = record { rows : AreRows l.rows.items l.rule l.count; blank : IsBlank l.rows.items }

@@ -1,6 +1,0 @@
-use Rattle.std.proofs.Common.{take}
-use Rattle.plain_matches.specs.Positions.{Pairs, SameEnds}
-use Rattle.plain_matches.proofs.chart.have_same_ends.Given as goal
-
-abbrev pub invariant-loop-i : goal.invariant-loop-i
-invariant-loop-i l = Pairs SameEnds (take l.i l.old) (take l.i l.new)

@@ -1,9 +1,0 @@
-use Rattle.std.proofs.Common.{◌≡◌, ◌↔◌, ℕ, length, vec_len, take}
-use Rattle.plain_matches.specs.Positions.{IsIn, Known}
-use Rattle.plain_matches.proofs.chart.known_ends.Given as goal
-
-abbrev pub invariant-loop-row : goal.invariant-loop-row
-invariant-loop-row l = record {
-  len : vec_len l.to ≡ length l.from;
-  marks : (j : ℕ) → IsIn l.to.items j ↔ ((i : ℕ) × IsIn l.from i × Known (take l.row-index l.rows) l.rule i j);
-}

@@ -1,4 +1,0 @@
-pub mod Patterns
-pub mod View
-pub mod Positions
-pub mod Spelled

@@ -1,4 +1,0 @@
-pub mod Nodes
-pub mod Verdicts
-pub mod Texts
-pub mod Results
