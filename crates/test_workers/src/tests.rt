@@ -4,7 +4,7 @@
 //! script at a time fails `runs_two_and_four_scripts_at_once`, and one that is always out of memory
 //! `comes_to_the_same_with_any_number_of_workers`.
 
-ghost use Rattle.std.specs.Prelude.{◌≡◌, [], All, IfOk, IfSome, IsTrue, None};
+ghost use Rattle.std.specs.Prelude.{◌≡◌, ◌≤◌, [], All, IfOk, IfSome, IsTrue, None, length};
 
 use crate::hold_count::HoldCount;
 use crate::hold_gate::HoldGate;
@@ -46,15 +46,16 @@ fn are_free<G: Gate>(workers: &[Worker<G>]) -> bool
     workers.iter().all(|worker| worker.seat.is_none())
 }
 
-/// What these workers come to. The puts of these numbers into the journal fail, from 1.
-fn run_of<G: Gate + Send, W: Threads + Wait + Sync>(
-    rt: &W,
-    alloc: Global,
-    workers: &mut Vec<Worker<G>>,
-    fail: &[u64],
-) -> Result<Came, Fail> {
-    let journal = sink_of(alloc, fail)?;
-    run_with(rt, alloc, workers, journal, Kept::new(alloc))
+/// Whether there are 1 to 16 workers, of which none has a seat.
+fn are_ready<G: Gate>(workers: &[Worker<G>]) -> bool
+    ensures some { IsTrue result → (1 ≤ length workers.now) × (length workers.now ≤ 16) }
+    ensures unseated { IsTrue result → All (λ w. w.seat ≡ None) workers.now }
+{
+    let count = workers.len();
+    if count == 0 || count > 16 {
+        return false;
+    }
+    are_free(workers)
 }
 
 /// A journal whose puts of these numbers fail, from 1.
@@ -64,27 +65,76 @@ fn sink_of(alloc: Global, fail: &[u64]) -> Result<MemSink, Fail>
     Ok(MemSink::new(alloc, 10000, Vec::from_slice(alloc, fail)?)?)
 }
 
-/// What they come to with this journal, which is empty, and these kept verdicts.
+/// The verdicts of a journal; none where there is no journal.
+fn known_from(alloc: Global, journal: Option<&[u8]>) -> Result<Kept, Fail> {
+    match journal {
+        None => Ok(Kept::new(alloc)),
+        Some(bytes) => kept_in(alloc, bytes),
+    }
+}
+
+/// What these workers come to. The puts of these numbers into the journal fail, from 1.
+fn run_of<G: Gate + Send, W: Threads + Wait + Sync>(
+    rt: &W,
+    alloc: Global,
+    workers: &mut [Worker<G>],
+    fail: &[u64],
+) -> Result<Came, Fail> {
+    run_with(rt, alloc, workers, fail, None)
+}
+
+/// What they come to with the verdicts of this earlier journal, if there is one.
 fn run_with<G: Gate + Send, W: Threads + Wait + Sync>(
     rt: &W,
     alloc: Global,
-    workers: &mut Vec<Worker<G>>,
-    journal: MemSink,
-    kept: Kept,
-) -> Result<Came, Fail>
-    requires { IfSome (⟦<MemSink as Sink>⟧.put_so_far journal) (λ put. put.bytes ≡ []) }
-{
-    let count = workers.len();
-    if START.len() > TEXT_LIMIT || count == 0 || count > 16 {
-        return Err("1 to 16 workers and a start of few bytes")?;
-    }
-    if !are_free(workers) {
-        return Err("no worker has a seat")?;
+    workers: &mut [Worker<G>],
+    fail: &[u64],
+    earlier: Option<&[u8]>,
+) -> Result<Came, Fail> {
+    if !are_ready(workers) {
+        return Err("1 to 16 workers, of which none has a seat")?;
     }
     let guard = Guard::new(KeepTexts::new(alloc));
-    let reducer = line_reducer(alloc, START, &guard)?;
+    run_by(rt, alloc, workers, &guard, fail, earlier)
+}
+
+/// What they come to by the reducer of the start that has this guard.
+fn run_by<G: Gate + Send, W: Threads + Wait + Sync>(
+    rt: &W,
+    alloc: Global,
+    workers: &mut [Worker<G>],
+    guard: &Guard<KeepTexts<'_>>,
+    fail: &[u64],
+    earlier: Option<&[u8]>,
+) -> Result<Came, Fail>
+    requires some { (1 ≤ length workers.old) × (length workers.old ≤ 16) }
+    requires unseated { All (λ w. w.seat ≡ None) workers.old }
+{
+    if START.len() > TEXT_LIMIT {
+        return Err("a start of few bytes")?;
+    }
+    let reducer = line_reducer(alloc, START, guard)?;
+    run_over(rt, alloc, workers, reducer, fail, earlier)
+}
+
+/// What they come to by this reducer, which is new.
+fn run_over<S: ReducerStep + Drop + Send, G: Gate + Send, W: Threads + Wait + Sync>(
+    rt: &W,
+    alloc: Global,
+    workers: &mut [Worker<G>],
+    reducer: S,
+    fail: &[u64],
+    earlier: Option<&[u8]>,
+) -> Result<Came, Fail>
+    requires some { (1 ≤ length workers.old) × (length workers.old ≤ 16) }
+    requires unseated { All (λ w. w.seat ≡ None) workers.old }
+    requires first { S.first reducer ≡ S.plan reducer }
+{
+    let kept = known_from(alloc, earlier)?;
+    let journal = sink_of(alloc, fail)?;
     let start = digest_of(START);
-    let Ok((board, seats)) = Board::new(alloc, reducer, journal, count as u32, start, kept) else {
+    let count = workers.len() as u32;
+    let Ok((board, seats)) = Board::new(alloc, reducer, journal, count, start, kept) else {
         return Err("a board")?;
     };
     let outcome = run_workers(rt, board, seats, workers);
@@ -493,20 +543,6 @@ fn kept_count(events: &[Event]) -> u64 {
     count
 }
 
-/// What these workers come to with the verdicts of this journal. The puts of these numbers into their own
-/// fail, from 1.
-fn resumed<G: Gate + Send, W: Threads + Wait + Sync>(
-    rt: &W,
-    alloc: Global,
-    workers: &mut Vec<Worker<G>>,
-    fail: &[u64],
-    journal: &[u8],
-) -> Result<Came, Fail> {
-    let sink = sink_of(alloc, fail)?;
-    let kept = kept_in(alloc, journal)?;
-    run_with(rt, alloc, workers, sink, kept)
-}
-
 /// What so many workers come to whose gates fail at each ask, and how many texts these were asked about.
 fn resumed_failing<W: Threads + Wait + Sync>(
     rt: &W,
@@ -516,7 +552,7 @@ fn resumed_failing<W: Threads + Wait + Sync>(
     journal: &[u8],
 ) -> Result<(Came, u64), Fail> {
     let mut workers = failing(alloc, count)?;
-    let came = resumed(rt, alloc, &mut workers, fail, journal)?;
+    let came = run_with(rt, alloc, &mut workers, fail, Some(journal))?;
     Ok((came, asked_in_order(&workers)))
 }
 
@@ -650,7 +686,7 @@ fn resumed_by_rule<W: Threads + Wait + Sync>(
     journal: &[u8],
 ) -> Result<(Came, u64), Fail> {
     let mut workers = by_rule(alloc, count)?;
-    let came = resumed(rt, alloc, &mut workers, &[], journal)?;
+    let came = run_with(rt, alloc, &mut workers, &[], Some(journal))?;
     Ok((came, asked_by_rule(&workers)))
 }
 

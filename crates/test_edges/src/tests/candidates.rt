@@ -28,9 +28,9 @@ fn first_other<G: Gate>(gate: &mut G) -> Option<usize> {
 }
 
 /// How a gate over the slow machine is opened; that number; and how it is opened below a file.
-fn by_slow_machine(
-    rt: HostRuntime,
-) -> (Result<(), GateFault>, Option<usize>, Result<(), GateFault>) {
+type Slowly = (Result<(), GateFault>, Option<usize>, Result<(), GateFault>);
+
+fn by_slow_machine(rt: HostRuntime) -> Slowly {
     let alloc = rt.alloc();
     let mut slow = ProcessGate::new(SlowMachine::new(rt), alloc);
     let opened = slow.open("candidates", "/bin/sh", "candidate", 1);
@@ -39,17 +39,18 @@ fn by_slow_machine(
     (opened, other, below_a_file)
 }
 
+/// That, and whether an empty candidate is an empty file.
+fn written_slowly(rt: &HostRuntime) -> Result<(Slowly, bool), Fail> {
+    let slowly = by_slow_machine(rt.clone()?);
+    let is_empty = holds(rt, "candidates/1/candidate", "");
+    fs::remove_dir_all(rt, "candidates")?;
+    Ok((slowly, is_empty))
+}
+
 #[test]
 fn a_candidate_is_written_whole(rt: HostRuntime) -> Result<(), Fail> {
-    let (opened, other, below_a_file) = by_slow_machine(rt.clone()?);
-    assert_eq!(rt; opened, Ok(()));
-    assert_eq!(rt; other, None);
-    assert_eq!(rt; below_a_file, Err(GateFault::Failed));
-    assert!(rt;
-        holds(&rt, "candidates/1/candidate", ""),
-        "an empty candidate is an empty file"
-    );
-    fs::remove_dir_all(&rt, "candidates")?;
+    let wanted = (Ok(()), None, Err(GateFault::Failed));
+    assert_eq!(rt; written_slowly(&rt)?, (wanted, true));
     Ok(())
 }
 
@@ -93,7 +94,9 @@ fn script_fault(gate: &mut ProcessGate<HostRuntime>) -> Fault {
 }
 
 /// Whether a gate has no end and no fault at first, and then those, one after another.
-fn kept_by_a_gate(rt: HostRuntime) -> (bool, Option<i32>, Fault, Fault) {
+type Ends = (bool, Option<i32>, Fault, Fault);
+
+fn kept_by_a_gate(rt: HostRuntime) -> Ends {
     let alloc = rt.alloc();
     let mut gate = ProcessGate::new(rt, alloc);
     let is_new = gate.last_end().is_none() && gate.last_fault().is_none();
@@ -103,13 +106,17 @@ fn kept_by_a_gate(rt: HostRuntime) -> (bool, Option<i32>, Fault, Fault) {
     (is_new, status, folder, script)
 }
 
+/// That, after which its folder is removed.
+fn kept_at_its_ends(rt: &HostRuntime) -> Result<Ends, Fail> {
+    let kept = kept_by_a_gate(rt.clone()?);
+    fs::remove_dir_all(rt, "ends")?;
+    Ok(kept)
+}
+
 #[test]
 fn a_gate_keeps_the_last_end_and_the_last_fault(rt: HostRuntime) -> Result<(), Fail> {
-    let (is_new, status, folder, script) = kept_by_a_gate(rt.clone()?);
-    fs::remove_dir_all(&rt, "ends")?;
-    assert!(rt; is_new);
-    assert_eq!(rt; status, Some(7));
-    assert_eq!(rt; folder, Some((ScriptCall::MakeFolder, Some(20))));
-    assert_eq!(rt; script, Some((ScriptCall::RunScript, Some(2))));
+    let folder = Some((ScriptCall::MakeFolder, Some(20)));
+    let script = Some((ScriptCall::RunScript, Some(2)));
+    assert_eq!(rt; kept_at_its_ends(&rt)?, (true, Some(7), folder, script));
     Ok(())
 }

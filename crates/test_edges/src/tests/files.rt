@@ -152,12 +152,18 @@ fn are_kept(files: &LoggedFiles<MemFiles>, wanted: &[Kept]) -> bool {
     true
 }
 
+/// The number of the first call of the second case that isn't answered so; whether its calls are kept; and
+/// whether the files hold what they should.
+fn logged(alloc: Global) -> Result<(Option<usize>, bool, bool), Fail> {
+    let mut files = LoggedFiles::new(alloc, files_of(alloc, &CASES[1])?);
+    let other = first_other(&mut files, CASES[1].calls);
+    let holds_texts = has(files.inner(), CASES[1].contents);
+    Ok((other, are_kept(&files, &KEPT), holds_texts))
+}
+
 #[test]
 fn logged_files_keep_their_calls(rt: HostRuntime) -> Result<(), Fail> {
-    let mut files = LoggedFiles::new(rt.alloc(), files_of(rt.alloc(), &CASES[1])?);
-    assert_eq!(rt; first_other(&mut files, CASES[1].calls), None);
-    assert!(rt; are_kept(&files, &KEPT));
-    assert!(rt; has(files.inner(), CASES[1].contents));
+    assert_eq!(rt; logged(rt.alloc())?, (None, true, true));
     Ok(())
 }
 
@@ -185,14 +191,19 @@ fn other_slowly(rt: HostRuntime) -> Option<usize> {
     first_other(&mut DiskFiles::new(SlowMachine::new(rt), alloc), &SLOWLY)
 }
 
+/// The numbers of the first calls that aren't answered so, and whether the files are whole.
+fn whole_files(rt: &HostRuntime) -> Result<(Option<usize>, Option<usize>, bool), Fail> {
+    fs::create_dir_all(rt, "files")?;
+    let on_disk = other_on_disk(rt.clone()?);
+    let slowly = other_slowly(rt.clone()?);
+    let held = holds(rt, "files/file", "written") && holds(rt, "files/slow", "written whole");
+    fs::remove_dir_all(rt, "files")?;
+    Ok((on_disk, slowly, held))
+}
+
 #[test]
 fn the_machine_reads_and_writes_whole_files(rt: HostRuntime) -> Result<(), Fail> {
-    fs::create_dir_all(&rt, "files")?;
-    let others = (other_on_disk(rt.clone()?), other_slowly(rt.clone()?));
-    let held = holds(&rt, "files/file", "written") && holds(&rt, "files/slow", "written whole");
-    fs::remove_dir_all(&rt, "files")?;
-    assert_eq!(rt; others, (None, None));
-    assert!(rt; held);
+    assert_eq!(rt; whole_files(&rt)?, (None, None, true));
     Ok(())
 }
 
@@ -238,12 +249,17 @@ fn kept_by_files(rt: HostRuntime) -> (Option<usize>, bool, bool) {
     )
 }
 
+/// That, in a folder of its own.
+fn kept_reasons(rt: &HostRuntime) -> Result<(Option<usize>, bool, bool), Fail> {
+    fs::create_dir_all(rt, "reasons")?;
+    let kept = kept_by_files(rt.clone()?);
+    fs::remove_dir_all(rt, "reasons")?;
+    Ok(kept)
+}
+
 #[test]
 fn the_machine_keeps_the_last_reason_and_what_was_read_first(rt: HostRuntime) -> Result<(), Fail> {
-    fs::create_dir_all(&rt, "reasons")?;
-    let kept = kept_by_files(rt.clone()?);
-    fs::remove_dir_all(&rt, "reasons")?;
-    assert_eq!(rt; kept, (None, true, true));
+    assert_eq!(rt; kept_reasons(&rt)?, (None, true, true));
     Ok(())
 }
 
@@ -265,12 +281,22 @@ fn long_file(rt: HostRuntime, bytes: &[u8]) -> ((bool, bool), bool) {
     (goes, files.first_read("long/file").is_none())
 }
 
+/// That of a file of one byte more than is kept.
+fn longer_than_kept(rt: HostRuntime) -> Result<((bool, bool), bool), Fail> {
+    let bytes = vec![in rt.alloc(); b'x'; 1_048_577]?;
+    Ok(long_file(rt, &bytes))
+}
+
+/// That, in a folder of its own.
+fn kept_of_a_long_file(rt: &HostRuntime) -> Result<((bool, bool), bool), Fail> {
+    fs::create_dir_all(rt, "long")?;
+    let kept = longer_than_kept(rt.clone()?)?;
+    fs::remove_dir_all(rt, "long")?;
+    Ok(kept)
+}
+
 #[test]
 fn the_machine_keeps_no_long_file(rt: HostRuntime) -> Result<(), Fail> {
-    fs::create_dir_all(&rt, "long")?;
-    let bytes = vec![in rt.alloc(); b'x'; 1_048_577]?;
-    let kept = long_file(rt.clone()?, &bytes);
-    fs::remove_dir_all(&rt, "long")?;
-    assert_eq!(rt; kept, ((true, true), true));
+    assert_eq!(rt; kept_of_a_long_file(&rt)?, ((true, true), true));
     Ok(())
 }

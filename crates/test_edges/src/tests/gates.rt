@@ -1,5 +1,6 @@
 //! Gates in memory and over real scripts.
 
+use super::held::holds;
 use script_gate::ProcessGate;
 use script_gate_trait::{Gate, GateFault, ListGate, Log, RuleGate, Said, Verdict};
 use std::alloc::Global;
@@ -184,12 +185,17 @@ fn other_scripts(rt: HostRuntime, alloc: Global) -> (bool, Option<usize>, Option
     )
 }
 
+/// That, and whether the last candidate is in its file.
+fn judged(rt: &HostRuntime) -> Result<((bool, Option<usize>, Option<usize>), bool), Fail> {
+    let others = other_scripts(rt.clone()?, rt.alloc());
+    let is_written = holds(rt, "scripts/7/candidate", "true\n");
+    fs::remove_dir_all(rt, "scripts")?;
+    Ok((others, is_written))
+}
+
 #[test]
 fn judges_by_the_status_of_the_script(rt: HostRuntime) -> Result<(), Fail> {
-    assert_eq!(rt; other_scripts(rt.clone()?, rt.alloc()), (true, None, None));
-    let candidate = fs::read_to_string(&rt, "scripts/7/candidate")?;
-    assert_eq!(rt; candidate.as_str(), "true\n");
-    fs::remove_dir_all(&rt, "scripts")?;
+    assert_eq!(rt; judged(&rt)?, ((true, None, None), true));
     Ok(())
 }
 
@@ -204,13 +210,21 @@ fn other_on_a_full_device(rt: HostRuntime, alloc: Global, entry: &str) -> (bool,
     (is_open, first_other(&mut gate, &ON_A_FULL_DEVICE))
 }
 
+/// That of a device with this number among the open files.
+fn other_at(rt: &HostRuntime, number: i32) -> Result<(bool, Option<usize>), Fail> {
+    let entry = format!(in rt.alloc(); "fd/{number}")?;
+    Ok(other_on_a_full_device(rt.clone()?, rt.alloc(), &entry))
+}
+
 // The file of a candidate is removed before it is written, and the entry of an open file can't be:
 // so the write goes to the device.
+fn other_on_full(rt: &HostRuntime) -> Result<(bool, Option<usize>), Fail> {
+    let device = fs::create(rt, "/dev/full")?;
+    other_at(rt, device.as_raw_fd())
+}
+
 #[test]
 fn a_full_device_is_a_failed_ask(rt: HostRuntime) -> Result<(), Fail> {
-    let device = fs::create(&rt, "/dev/full")?;
-    let entry = format!(in rt.alloc(); "fd/{}", device.as_raw_fd())?;
-    let other = other_on_a_full_device(rt.clone()?, rt.alloc(), &entry);
-    assert_eq!(rt; other, (true, None));
+    assert_eq!(rt; other_on_full(&rt)?, (true, None));
     Ok(())
 }

@@ -6,30 +6,41 @@ use std::alloc::Global;
 use std::sync::Wait;
 use std::test::Fail;
 
-/// What a permit of this number gives for this text: the verdict, or what it was spent for where the gate
-/// gives none. Nothing where the text has no token.
+/// The verdict that a permit gives, or what it was spent for where the gate gives none.
+type Spent = Result<Verdict, (u64, GateFault)>;
+
+/// What a permit of this number gives for the text of these bytes. Nothing where that has no token.
+fn spent_on<G: Gate, W: Wait>(
+    rt: &W,
+    texts: &Texts,
+    gate: &mut G,
+    number: u64,
+    bytes: Bytes,
+) -> Option<Spent> {
+    let Ok(token) = texts.push_shown(rt, bytes) else {
+        return None;
+    };
+    match ask_once(gate, texts, Permit::new(number, token)) {
+        Ok(answer) => Some(Ok(answer.verdict())),
+        Err(unasked) => Some(Err(unasked.spend())),
+    }
+}
+
+/// What one gives for this text.
 fn spent<G: Gate, W: Wait>(
     rt: &W,
     alloc: Global,
     gate: &mut G,
     number: u64,
     text: &[u8],
-) -> Result<Option<Result<Verdict, (u64, GateFault)>>, Fail> {
+) -> Result<Option<Spent>, Fail> {
     let texts = Texts::new(alloc)?;
-    let Ok(token) = texts.push_shown(rt, Bytes::from_slice(alloc, text)?) else {
-        return Ok(None);
-    };
-    match ask_once(gate, &texts, Permit::new(number, token)) {
-        Ok(answer) => Ok(Some(Ok(answer.verdict()))),
-        Err(unasked) => Ok(Some(Err(unasked.spend()))),
-    }
+    let bytes = Bytes::from_slice(alloc, text)?;
+    Ok(spent_on(rt, &texts, gate, number, bytes))
 }
 
 /// What one gives for a text with a `b`, which the gate says yes to.
-fn spent_by_rule<W: Wait>(
-    rt: &W,
-    alloc: Global,
-) -> Result<Option<Result<Verdict, (u64, GateFault)>>, Fail> {
+fn spent_by_rule<W: Wait>(rt: &W, alloc: Global) -> Result<Option<Spent>, Fail> {
     let mut gate = RuleGate::<98>::new(alloc, true);
     spent(rt, alloc, &mut gate, 7, b"a=1;b=2;")
 }
@@ -42,10 +53,7 @@ fn answers_where_the_gate_does(rt: HostRuntime) -> Result<(), Fail> {
 }
 
 /// What one gives where the gate fails.
-fn spent_on_a_failure<W: Wait>(
-    rt: &W,
-    alloc: Global,
-) -> Result<Option<Result<Verdict, (u64, GateFault)>>, Fail> {
+fn spent_on_a_failure<W: Wait>(rt: &W, alloc: Global) -> Result<Option<Spent>, Fail> {
     let mut gate = ListGate::new(alloc, Vec::new(alloc), Said::Fail);
     spent(rt, alloc, &mut gate, 3, b"a")
 }

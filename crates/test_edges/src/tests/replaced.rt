@@ -77,22 +77,22 @@ fn write_new(rt: HostRuntime, fails: Option<Failure>, name: &str) -> Result<(), 
 }
 
 /// Whether this comes of the case, and nothing is left beside the file, which is alone in its folder.
-fn comes_so(rt: HostRuntime, case: Case) -> Result<bool, Fail> {
-    fs::write(&rt, "replaced/file", b"old")?;
-    let before = number_of(&rt, "replaced/file");
+fn comes_so(rt: &HostRuntime, case: Case) -> Result<bool, Fail> {
+    fs::write(rt, "replaced/file", b"old")?;
+    let before = number_of(rt, "replaced/file");
     let answer = write_new(rt.clone()?, case.fails, "replaced/file");
-    let is_new = number_of(&rt, "replaced/file") != before;
+    let is_new = number_of(rt, "replaced/file") != before;
     Ok(
         answer == case.answer
             && is_new == case.is_new
-            && holds(&rt, "replaced/file", case.text)
-            && count_in(&rt, "replaced") == Some(1),
+            && holds(rt, "replaced/file", case.text)
+            && count_in(rt, "replaced") == Some(1),
     )
 }
 
 /// The first of these failures of which something else comes than this.
 fn first_other(
-    rt: HostRuntime,
+    rt: &HostRuntime,
     failures: &[Failure],
     answer: Result<(), WriteFault>,
     text: &'static str,
@@ -104,105 +104,108 @@ fn first_other(
             text,
             is_new: false,
         };
-        if !comes_so(rt.clone()?, case)? {
+        if !comes_so(rt, case)? {
             return Ok(Some(*failure));
         }
     }
     Ok(None)
 }
 
+/// Whether the file is replaced where nothing fails, and those failures of which something else comes than
+/// a file in place, and than the old text.
+fn replaced(rt: &HostRuntime) -> Result<(bool, Option<Failure>, Option<Failure>), Fail> {
+    fs::create_dir_all(rt, "replaced")?;
+    let is_replaced = comes_so(rt, REPLACED)?;
+    let other_in_place = first_other(rt, &IN_PLACE, Ok(()), "new")?;
+    let other_kept = first_other(rt, &KEPT, Err(WriteFault::Failed), "old")?;
+    fs::remove_dir_all(rt, "replaced")?;
+    Ok((is_replaced, other_in_place, other_kept))
+}
+
 #[test]
 fn a_new_file_takes_the_place_of_the_old_one(rt: HostRuntime) -> Result<(), Fail> {
-    fs::create_dir_all(&rt, "replaced")?;
-    let is_replaced = comes_so(rt.clone()?, REPLACED)?;
-    let failed = Err(WriteFault::Failed);
-    let others = (
-        first_other(rt.clone()?, &IN_PLACE, Ok(()), "new")?,
-        first_other(rt.clone()?, &KEPT, failed, "old")?,
-    );
-    fs::remove_dir_all(&rt, "replaced")?;
-    assert!(rt; is_replaced);
-    assert_eq!(rt; others, (None, None));
+    assert_eq!(rt; replaced(&rt)?, (true, None, None));
     Ok(())
 }
 
 /// Whether a file that isn't there is made, and nothing is beside it. Where the write of it fails, nothing is left.
-fn is_made_whole(rt: HostRuntime) -> Result<(bool, bool), Fail> {
+fn is_made_whole(rt: &HostRuntime) -> Result<(bool, bool), Fail> {
+    fs::create_dir_all(rt, "made")?;
     let write_fails = Failure(Step::Write, ErrorKind::StorageFull);
     let failed = write_new(rt.clone()?, Some(write_fails), "made/file");
-    let leaves_nothing = failed == Err(WriteFault::Failed) && count_in(&rt, "made") == Some(0);
+    let leaves_nothing = failed == Err(WriteFault::Failed) && count_in(rt, "made") == Some(0);
     let made = write_new(rt.clone()?, None, "made/file");
-    let is_alone = count_in(&rt, "made") == Some(1);
-    Ok((
-        leaves_nothing,
-        made == Ok(()) && is_alone && holds(&rt, "made/file", "new"),
-    ))
+    let is_alone = count_in(rt, "made") == Some(1);
+    let is_whole = made == Ok(()) && is_alone && holds(rt, "made/file", "new");
+    fs::remove_dir_all(rt, "made")?;
+    Ok((leaves_nothing, is_whole))
 }
 
 #[test]
 fn a_file_that_is_not_there_is_made_whole(rt: HostRuntime) -> Result<(), Fail> {
-    fs::create_dir_all(&rt, "made")?;
-    let made = is_made_whole(rt.clone()?)?;
-    fs::remove_dir_all(&rt, "made")?;
-    assert_eq!(rt; made, (true, true));
+    assert_eq!(rt; is_made_whole(&rt)?, (true, true));
     Ok(())
 }
 
 /// Whether a link stays a link, and the file has the new text that it leads to.
-fn goes_by_the_link(rt: HostRuntime) -> Result<bool, Fail> {
-    fs::write(&rt, "named/file", b"old")?;
-    symlink(&rt, "file", "named/link")?;
+fn goes_by_the_link(rt: &HostRuntime) -> Result<bool, Fail> {
+    fs::write(rt, "named/file", b"old")?;
+    symlink(rt, "file", "named/link")?;
     let answer = write_new(rt.clone()?, None, "named/link");
-    let is_link = fs::symlink_metadata(&rt, "named/link")?.is_symlink();
-    Ok(answer == Ok(()) && is_link && holds(&rt, "named/file", "new"))
+    let is_link = fs::symlink_metadata(rt, "named/link")?.is_symlink();
+    Ok(answer == Ok(()) && is_link && holds(rt, "named/file", "new"))
 }
 
 /// Whether a file has the new text under both of its names.
-fn goes_by_both_names(rt: HostRuntime) -> Result<bool, Fail> {
-    fs::write(&rt, "named/one", b"old")?;
-    fs::hard_link(&rt, "named/one", "named/two")?;
+fn goes_by_both_names(rt: &HostRuntime) -> Result<bool, Fail> {
+    fs::write(rt, "named/one", b"old")?;
+    fs::hard_link(rt, "named/one", "named/two")?;
     let answer = write_new(rt.clone()?, None, "named/two");
-    Ok(answer == Ok(()) && holds(&rt, "named/one", "new") && holds(&rt, "named/two", "new"))
+    Ok(answer == Ok(()) && holds(rt, "named/one", "new") && holds(rt, "named/two", "new"))
+}
+
+/// Both, in a folder of their own.
+fn goes_by_names(rt: &HostRuntime) -> Result<(bool, bool), Fail> {
+    fs::create_dir_all(rt, "named")?;
+    let goes = (goes_by_the_link(rt)?, goes_by_both_names(rt)?);
+    fs::remove_dir_all(rt, "named")?;
+    Ok(goes)
 }
 
 #[test]
 fn a_link_and_a_file_of_two_names_are_written_in_place(rt: HostRuntime) -> Result<(), Fail> {
-    fs::create_dir_all(&rt, "named")?;
-    let goes = (
-        goes_by_the_link(rt.clone()?)?,
-        goes_by_both_names(rt.clone()?)?,
-    );
-    fs::remove_dir_all(&rt, "named")?;
-    assert_eq!(rt; goes, (true, true));
+    assert_eq!(rt; goes_by_names(&rt)?, (true, true));
     Ok(())
 }
 
 /// Whether a file is replaced by one with its permissions.
-fn keeps_permissions(rt: HostRuntime) -> Result<bool, Fail> {
-    fs::write(&rt, "kept/file", b"old")?;
-    fs::set_permissions(&rt, "kept/file", Permissions::from_mode(0o640))?;
-    let before = number_of(&rt, "kept/file");
+fn keeps_permissions(rt: &HostRuntime) -> Result<bool, Fail> {
+    fs::write(rt, "kept/file", b"old")?;
+    fs::set_permissions(rt, "kept/file", Permissions::from_mode(0o640))?;
+    let before = number_of(rt, "kept/file");
     let answer = write_new(rt.clone()?, None, "kept/file");
-    let mode = fs::metadata(&rt, "kept/file")?.permissions().mode();
-    Ok(answer == Ok(()) && number_of(&rt, "kept/file") != before && mode & 0o777 == 0o640)
+    let mode = fs::metadata(rt, "kept/file")?.permissions().mode();
+    Ok(answer == Ok(()) && number_of(rt, "kept/file") != before && mode & 0o777 == 0o640)
 }
 
 /// Whether a file stays that has the first name of a new one.
-fn keeps_the_first_name(rt: HostRuntime) -> Result<bool, Fail> {
-    fs::write(&rt, "kept/file.new1", b"mine")?;
+fn keeps_the_first_name(rt: &HostRuntime) -> Result<bool, Fail> {
+    fs::write(rt, "kept/file.new1", b"mine")?;
     let answer = write_new(rt.clone()?, None, "kept/file");
-    let is_kept = holds(&rt, "kept/file.new1", "mine") && holds(&rt, "kept/file", "new");
-    Ok(answer == Ok(()) && is_kept && count_in(&rt, "kept") == Some(2))
+    let is_kept = holds(rt, "kept/file.new1", "mine") && holds(rt, "kept/file", "new");
+    Ok(answer == Ok(()) && is_kept && count_in(rt, "kept") == Some(2))
+}
+
+/// Both, one after another in one folder.
+fn keeps_both(rt: &HostRuntime) -> Result<(bool, bool), Fail> {
+    fs::create_dir_all(rt, "kept")?;
+    let keeps = (keeps_permissions(rt)?, keeps_the_first_name(rt)?);
+    fs::remove_dir_all(rt, "kept")?;
+    Ok(keeps)
 }
 
 #[test]
 fn permissions_stay_and_files_beside_it(rt: HostRuntime) -> Result<(), Fail> {
-    fs::create_dir_all(&rt, "kept")?;
-    let keeps = (
-        keeps_permissions(rt.clone()?)?,
-        keeps_the_first_name(rt.clone()?)?,
-    );
-    fs::remove_dir_all(&rt, "kept")?;
-    assert_eq!(rt; keeps, (true, true));
+    assert_eq!(rt; keeps_both(&rt)?, (true, true));
     Ok(())
 }

@@ -217,15 +217,28 @@ fn other_without_a_file(rt: HostRuntime) -> (Option<usize>, Option<usize>) {
     )
 }
 
+/// The numbers of the first calls that aren't answered so, in a file, slowly, and without a file.
+type Others = [Option<usize>; 4];
+
+fn other_puts(rt: &HostRuntime) -> Result<Others, Fail> {
+    let in_a_file = other_in_a_file(rt.clone()?);
+    let slowly = other_slowly(rt.clone()?);
+    let (output, nothing) = other_without_a_file(rt.clone()?);
+    Ok([in_a_file, slowly, output, nothing])
+}
+
+/// Those, in a folder of their own, and whether the files are whole.
+fn whole_puts(rt: &HostRuntime) -> Result<(Others, bool), Fail> {
+    fs::create_dir_all(rt, "sinks")?;
+    let others = other_puts(rt)?;
+    let held = holds(rt, "sinks/file", "first second") && holds(rt, "sinks/slow", "put whole");
+    fs::remove_dir_all(rt, "sinks")?;
+    Ok((others, held))
+}
+
 #[test]
 fn a_stream_puts_into_what_was_opened_last(rt: HostRuntime) -> Result<(), Fail> {
-    fs::create_dir_all(&rt, "sinks")?;
-    let others = (other_in_a_file(rt.clone()?), other_slowly(rt.clone()?));
-    let without = other_without_a_file(rt.clone()?);
-    let held = holds(&rt, "sinks/file", "first second") && holds(&rt, "sinks/slow", "put whole");
-    fs::remove_dir_all(&rt, "sinks")?;
-    assert_eq!(rt; (others, without), ((None, None), (None, None)));
-    assert!(rt; held);
+    assert_eq!(rt; whole_puts(&rt)?, ([None; 4], true));
     Ok(())
 }
 

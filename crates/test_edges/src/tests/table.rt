@@ -30,8 +30,9 @@ fn has_texts(records: &Records, wanted: &[&[u8]]) -> bool {
 }
 
 /// Claims two texts and fills the claims in the other order: whether the table has what it should at
-/// first, with one claim, with two, with one filled and with two filled; and the records then.
-fn two_filled(alloc: Global) -> Result<([bool; 5], Records), Memory> {
+/// first, with one claim, with two, with one filled and with two filled; and whether its records are in that
+/// order then.
+fn two_filled(alloc: Global) -> Result<([bool; 5], bool), Memory> {
     let mut table = Table::new(alloc);
     let at_first = has_found(&table, Found::Absent, Found::Absent);
     let one = table.claim(Bytes::from_slice(alloc, b"one")?)?;
@@ -44,14 +45,13 @@ fn two_filled(alloc: Global) -> Result<([bool; 5], Records), Memory> {
     let is_second = table.fill(one, Verdict::Yes) == 2;
     let with_all = is_second && has_found(&table, filled(one, 2, Verdict::Yes), of_two);
     let seen = [at_first, with_one, with_two, with_half, with_all];
-    Ok((seen, table.into_records()))
+    let records = table.into_records();
+    Ok((seen, has_texts(&records, &[b"two", b"one"])))
 }
 
 #[test]
 fn fills_two_claims_in_the_other_order(rt: HostRuntime) -> Result<(), Fail> {
-    let (seen, records) = two_filled(rt.alloc())?;
-    assert_eq!(rt; seen, [true; 5]);
-    assert!(rt; has_texts(&records, &[b"two", b"one"]));
+    assert_eq!(rt; two_filled(rt.alloc())?, ([true; 5], true));
     Ok(())
 }
 
@@ -71,15 +71,21 @@ fn verdict_of(number: u32) -> Verdict {
     }
 }
 
+/// Puts the record of this number into the table, if it lacks its text.
+fn add_record(alloc: Global, table: &mut Table, number: u32) -> Result<(), Memory> {
+    let text = Bytes::from_slice(alloc, &text_of(number))?;
+    if let Found::Absent = table.find(text.as_slice()) {
+        let claim = table.claim(text)?;
+        table.fill(claim, verdict_of(number));
+    }
+    Ok(())
+}
+
 /// A table of the records of the numbers below `MANY`, in order.
 fn many_filled(alloc: Global) -> Result<Table, Memory> {
     let mut table = Table::new(alloc);
     for number in 0..MANY {
-        let text = Bytes::from_slice(alloc, &text_of(number))?;
-        if let Found::Absent = table.find(text.as_slice()) {
-            let claim = table.claim(text)?;
-            table.fill(claim, verdict_of(number));
-        }
+        add_record(alloc, &mut table, number)?;
     }
     Ok(table)
 }
@@ -112,21 +118,24 @@ fn finds_each_of_many_texts(rt: HostRuntime) -> Result<(), Fail> {
     Ok(())
 }
 
-/// The records of two texts.
-fn two_records(alloc: Global) -> Result<Records, Memory> {
+/// Adds a record of this text.
+fn add_yes(alloc: Global, records: &mut Records, text: &[u8]) -> Result<(), Memory> {
+    records.push(Record {
+        text: Bytes::from_slice(alloc, text)?,
+        verdict: Verdict::Yes,
+    })
+}
+
+/// Whether two records are in the order in which they were added.
+fn adds_two(alloc: Global) -> Result<bool, Memory> {
     let mut records = Records::new(alloc);
-    for text in [b"a", b"b"] {
-        records.push(Record {
-            text: Bytes::from_slice(alloc, text.as_slice())?,
-            verdict: Verdict::Yes,
-        })?;
-    }
-    Ok(records)
+    add_yes(alloc, &mut records, b"a")?;
+    add_yes(alloc, &mut records, b"b")?;
+    Ok(has_texts(&records, &[b"a", b"b"]))
 }
 
 #[test]
 fn adds_records_at_the_end(rt: HostRuntime) -> Result<(), Fail> {
-    let records = two_records(rt.alloc())?;
-    assert!(rt; has_texts(&records, &[b"a", b"b"]));
+    assert!(rt; adds_two(rt.alloc())?);
     Ok(())
 }
