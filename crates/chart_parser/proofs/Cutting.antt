@@ -58,7 +58,7 @@ pub is_not_there : (found : Option ℕ) → is_some found ≡ false → found �
 is_not_there None h = refl
 is_not_there (Some e) h = absurd (cc)
 
-contains_one : (y x : ℕ) → Contains (y ∷ []) x → x ≡ y
+pub contains_one : (y x : ℕ) → Contains (y ∷ []) x → x ≡ y
 contains_one y x (zero, l, e) = sym e
 contains_one y x (suc k, l, e) = absurd (omega (arith, l))
 
@@ -75,7 +75,7 @@ taken_last : (xs : List ℕ) (i : ℕ) → i < length xs → Contains (take (i +
 taken_last xs i l = subst (λ (l : List ℕ). Contains l (get_or xs i 0)) (sym (take_more xs i 0 l)) (Contains-push (take i xs) (get_or xs i 0))
 
 -- the kinds of what symbols derive are in order
-seq_within : (N : NormalForm) (K : List ℕ) (ss : List Sym) (i j : ℕ) → DerivesSpanSeq N K ss i j → (i ≤ j) × (j ≤ length K)
+pub seq_within : (N : NormalForm) (K : List ℕ) (ss : List Sym) (i j : ℕ) → DerivesSpanSeq N K ss i j → (i ≤ j) × (j ≤ length K)
 seq_within N K ss i j d = let x = ((lists N K).seq ss i j).0 d in (x.0, x.1)
 
 module _ (N : NormalForm) (K : List ℕ) where

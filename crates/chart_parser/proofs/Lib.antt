@@ -4,3 +4,4 @@ mod Cutting
 mod ElementEnds
 mod Asking
 mod Alternatives
+mod KnownParts

@@ -5,8 +5,9 @@ ghost use Rattle.std.specs.List.Sorted.{IsStrictlyIncreasing};
 ghost use Rattle.normal_form.specs.Spans.{DerivesSpanSeq};
 ghost use Rattle.chart_parser_ends.specs.Positions.{HasAll, HasExactly};
 ghost use Rattle.chart_parser.specs.inner.GoingOn.{AreGoingOn, AreReached, EndsFrom, Meets};
-ghost use Rattle.chart_parser.specs.inner.Parts.{AreParts};
+ghost use Rattle.chart_parser.specs.inner.Parts.{AreParts, HasParts};
 
+use crate::known::{add_known_parts, add_last_part, add_two_parts};
 use crate::part::Part;
 use chart_parser_ends::Chart;
 use faults::Memory;
@@ -44,7 +45,7 @@ fn positions_reached(
     ensures count { IfOk result (λ sets. length sets.items ≡ length symbols.now) }
     ensures reached { IfOk result (λ sets. AreReached chart.old.normal chart.old.kinds symbols.now part.first part.end (length symbols.now) sets.items) }
 {
-    let mut sets = Vec::new(alloc);
+    let mut sets = Vec::with_capacity(alloc, symbols.len() + 1)?;
     sets.push(vec![in alloc; part.first]?)?;
     for index in 0..symbols.len() - 1 {
         let next = next_positions(alloc, chart, symbols[index], &sets[index], part.end)?;
@@ -132,8 +133,60 @@ fn add_parts(
     Ok(true)
 }
 
+/// Adds the parts of any symbols, by the lists of positions that these reach and from which they go on.
+/// The answer is false where the symbols don't derive the span.
+fn add_all_parts(
+    alloc: Global,
+    chart: &mut Chart<'_>,
+    symbols: &[Sym],
+    part: Part,
+    parts: &mut Vec<Part>,
+) -> Result<bool, Memory>
+    requires some { 0 < length symbols.now }
+    requires first { part.first ≤ length chart.old.kinds }
+    requires end { part.end ≤ length chart.old.kinds }
+    ensures same { chart.new ≡ chart.old }
+    ensures yes { IfOk result (λ answer. IsTrue answer
+        → HasParts chart.old.normal chart.old.kinds symbols.now part.first part.end parts.old.items parts.new.items) }
+    ensures no { IfOk result (λ answer. answer ≡ false → ¬ DerivesSpanSeq chart.old.normal chart.old.kinds symbols.now part.first part.end) }
+{
+    let mut sets = positions_reached(alloc, chart, symbols, part)?;
+    keep_going_on(alloc, chart, symbols, part, &mut sets)?;
+    let mut more = Vec::new(alloc);
+    let is_cut = add_parts(chart, symbols, &sets, part, &mut more)?;
+    parts.extend_from_slice(&more)?;
+    Ok(is_cut)
+}
+
+/// Adds the parts of the symbols that come after those of which the parts are known. The answer is false
+/// where the symbols don't derive the span.
+fn add_other_parts(
+    alloc: Global,
+    chart: &mut Chart<'_>,
+    symbols: &[Sym],
+    part: Part,
+    parts: &mut Vec<Part>,
+) -> Result<bool, Memory>
+    requires first { part.first ≤ length chart.old.kinds }
+    requires end { part.end ≤ length chart.old.kinds }
+    ensures same { chart.new ≡ chart.old }
+    ensures yes { IfOk result (λ answer. IsTrue answer
+        → HasParts chart.old.normal chart.old.kinds symbols.now part.first part.end parts.old.items parts.new.items) }
+    ensures no { IfOk result (λ answer. answer ≡ false → ¬ DerivesSpanSeq chart.old.normal chart.old.kinds symbols.now part.first part.end) }
+{
+    match symbols {
+        [] => Ok(part.first == part.end),
+        [symbol] => add_last_part(chart, *symbol, part, parts),
+        [first, second] => add_two_parts(alloc, chart, *first, *second, part, parts),
+        [_, _, _, ..] => add_all_parts(alloc, chart, symbols, part, parts),
+    }
+}
+
 /// Cuts a span into the parts of the symbols, each as long as the rest allows. The answer is false
 /// where the symbols don't derive the span.
+///
+/// Mostly each symbol but the last one has one end alone. Lists of positions are made only for three
+/// symbols or more of which the first has several ends.
 pub(crate) fn alternative_parts(
     alloc: Global,
     chart: &mut Chart<'_>,
@@ -148,10 +201,13 @@ pub(crate) fn alternative_parts(
     ensures no { IfOk result (λ answer. answer ≡ false → ¬ DerivesSpanSeq chart.old.normal chart.old.kinds symbols.now part.first part.end) }
 {
     parts.clear();
-    if symbols.is_empty() {
-        return Ok(part.first == part.end);
-    }
-    let mut sets = positions_reached(alloc, chart, symbols, part)?;
-    keep_going_on(alloc, chart, symbols, part, &mut sets)?;
-    add_parts(chart, symbols, &sets, part, parts)
+    let Some(known) = add_known_parts(alloc, chart, symbols, part, parts)? else {
+        return Ok(false);
+    };
+    let rest = Part {
+        slot: part.slot,
+        first: known.position,
+        end: part.end,
+    };
+    add_other_parts(alloc, chart, &symbols[known.count..], rest, parts)
 }

@@ -12,6 +12,7 @@
 mod alternative;
 mod choice;
 mod elements;
+mod known;
 mod nodes;
 mod parser;
 mod part;

@@ -1,5 +1,7 @@
 -- How the span of a node is cut into those of its children.
-use Rattle.std.specs.Prelude.{◌≡◌, ℕ, ◌<◌, ◌≤◌, List, [], ◌∷◌, Some, length, slice_get}
+use Rattle.std.specs.Prelude.{◌≡◌, ℕ, ◌<◌, ◌≤◌, ◌++◌, List, [], ◌∷◌, Some, drop, length, slice_get}
+use Rattle.std.specs.List.{Contains}
+use Rattle.std.specs.List.Sorted.{IsStrictlyIncreasing}
 use Rattle.normal_form.specs.declared.normal.Sym.{Sym}
 use Rattle.normal_form.specs.Form.{RuleForm, NormalForm}
 use Rattle.normal_form.specs.Spans.{DerivesSpan, DerivesSpanSeq, DerivesSpanMany}
@@ -19,6 +21,23 @@ AreParts N kinds [] i j [] = (i ≡ j) × (i ≤ length kinds)
 AreParts N kinds [] i j (p ∷ ps) = ⊥
 AreParts N kinds (s ∷ ss) i j [] = ⊥
 AreParts N kinds (s ∷ ss) i j (p ∷ ps) = IsPart N kinds s i (λ e. DerivesSpanSeq N kinds ss e j) p × AreParts N kinds ss p.end j ps
+
+-- After the old parts come those of the symbols.
+abbrev pub HasParts : NormalForm → List ℕ → List Sym → ℕ → ℕ → List Part → List Part → Type 0
+HasParts N kinds ss i j old new = (more : List Part) × (new ≡ old ++ more) × AreParts N kinds ss i j more
+
+-- The parts of the first n symbols, which end at p, and with which the symbols derive the kinds only as the others derive those from p on.
+pub record IsKnownTo (N : NormalForm) (kinds : List ℕ) (ss : List Sym) (i j n p : ℕ) (parts : List Part) : Type 0 where
+  pub count : n ≤ length ss
+  pub within : p ≤ length kinds
+  pub only : DerivesSpanSeq N kinds ss i j → DerivesSpanSeq N kinds (drop n ss) p j
+  pub parts_are : (more : List Part) → AreParts N kinds (drop n ss) p j more → AreParts N kinds ss i j (parts ++ more)
+
+-- The first symbol can end at these positions, which rise, and at no others up to j from which the second one goes on to j.
+pub record AreEndsLeft (N : NormalForm) (kinds : List ℕ) (s t : Sym) (i j : ℕ) (ends : List ℕ) : Type 0 where
+  pub rising : IsStrictlyIncreasing ends
+  pub only : (x : ℕ) → Contains ends x → DerivesSpan N kinds s i x
+  pub all : (x : ℕ) → DerivesSpan N kinds s i x → DerivesSpan N kinds t x j → Contains ends x
 
 -- The parts of the symbol any number of times, from i up to but not including j. Over no kinds there is none.
 abbrev pub AreElements : NormalForm → List ℕ → Sym → ℕ → ℕ → List Part → Type 0

@@ -8,7 +8,7 @@ use Rattle.chart_parser.proofs.alternative.positions_reached.Goals as goal
 pub loop-index-init : goal.loop-index-init
 loop-index-init c =
     let v = c.in_ok-vec.field-0 in
-    let items = c.in_ok-push.ensures.items ∙ ap (λ (l : List (Vec ℕ)). l ++ v ∷ []) c.new-sets.ensures.items in (
+    let items = c.in_ok-push.ensures.items ∙ ap (λ (l : List (Vec ℕ)). l ++ v ∷ []) c.in_ok-sets.ensures.items in (
       refl,
       ap length items,
       subst (AreReached c.args.chart.now.normal c.args.chart.now.kinds c.args.symbols.now c.args.part.first c.args.part.end 1) (sym items)
