@@ -62,7 +62,7 @@ no_more PlainTrees.none e = refl
 no_more (PlainTrees.next t ts) e = absurd (omega (arith, e))
 
 -- a numbered tree and those after it have rising numbers
-first_rises : (position : ℕ) (t : PlainTree) (ts : PlainTrees) → renumbered_all position (PlainTrees.next t ts) ≡ PlainTrees.next t ts
+pub first_rises : (position : ℕ) (t : PlainTree) (ts : PlainTrees) → renumbered_all position (PlainTrees.next t ts) ≡ PlainTrees.next t ts
     → Rises position (position + size t) t × RiseAll (position + size t) (position + size t + size_all ts) ts
 first_rises position t ts e =
     let first : renumbered position t ≡ t = cc in

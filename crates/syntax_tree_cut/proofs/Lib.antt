@@ -13,6 +13,8 @@ mod Seen
 mod Questions
 mod TreesAfter
 mod Keeping
+mod KeepingTokens
+mod TokensLeft
 mod WithoutNodes
 mod Dropping
 pub mod Lent

@@ -16,7 +16,7 @@ ghost use Rattle.syntax_tree_cut.specs.inner.Cuts.{HasBelow, HasFitting, Replace
 ghost use Rattle.syntax_tree_cut.specs.inner.Children.{HasSeen};
 ghost use Rattle.syntax_tree_cut.specs.Shapes.{shape_of};
 ghost use Rattle.syntax_tree_cut.specs.inner.Steps.{HasDeleted, HasReplaced};
-ghost use Rattle.syntax_tree_cut.specs.inner.Keeping.{CanPass, HasPassed};
+ghost use Rattle.syntax_tree_cut.specs.inner.Keeping.{CanPass, CanPassTokens, HasPassed, HasPassedTokens};
 ghost use Rattle.syntax_tree_cut.specs.inner.Tokens.{IsSplitAt, within};
 ghost use Rattle.syntax_tree_cut.specs.WithoutNodes.{CanDrop, dropped, without_nodes};
 ghost use Rattle.syntax_tree_cut.specs.inner.Dropping.{CanDropNext, HasDroppedNext};
@@ -59,6 +59,18 @@ impl Model for Cut {
     ghost Value = { CutForm };
 
     ghost view = { λ c. record { marks = c.marks.items; positions = c.positions.items; kept = c.kept.items } };
+}
+
+/// How many of the tokens after the gap are in the span of the node.
+fn count_after(tree: &Tree, tokens: &[u32], node: u32, gap: Gap) -> usize
+    requires node { node < length tree.now.nodes }
+    requires gap { gap.to ≤ length tokens.now }
+    requires rising { IsStrictlyIncreasing (drop gap.to tokens.now) }
+    requires span { (x : NodeEntry) → slice_get tree.now.nodes node ≡ Some x → x.first ≤ x.end }
+    ensures { (x : NodeEntry) → slice_get tree.now.nodes node ≡ Some x → result ≡ length (within x.first x.end (drop gap.to tokens.now)) }
+{
+    let entry = tree.nodes()[node as usize];
+    count_within(&tokens[gap.to..], &entry)
 }
 
 impl Cut {
@@ -253,6 +265,89 @@ impl Cut {
     {
         let _ = tree;
         let tokens = Vec::from_slice(alloc, self.kept.as_slice())?;
+        Ok(tokens)
+    }
+
+    /// The tokens that `keep_elements` would leave, by their numbers, which rise. It takes memory linear in the
+    /// number of tokens that are left, and the time of `keep_elements`.
+    pub fn tokens_of_elements(
+        &self,
+        alloc: Global,
+        tree: &Tree,
+        list: u32,
+        keep: &[bool],
+    ) -> Result<Vec<u32>, Memory>
+        requires of { IsCutOf tree.now self.now }
+        requires can { CanSelect tree.now.form (cut_tree tree.now self.now) list keep.now }
+        ensures tokens { IfOk result (λ tokens. (t : PlainTree) × HasChildren list (selected_trees keep.now) (cut_tree tree.now self.now) t
+            × (tokens.items ≡ leaves t)) }
+        ensures rising { IfOk result (λ tokens. IsStrictlyIncreasing tokens.items) }
+    {
+        tree_laws();
+        let nodes = tree.nodes();
+        let mut tokens = Vec::from_slice(alloc, self.kept.as_slice())?;
+        let mut remaining = nodes[list as usize].children;
+        let mut progress = self.before_children(tree, list);
+        while remaining > 0 {
+            progress = self.pass_tokens(tree, keep, &mut tokens, progress);
+            remaining -= 1;
+        }
+        remove_between(&mut tokens, progress.gap.from, progress.gap.to);
+        Ok(tokens)
+    }
+
+    /// The tokens that `delete_optional` would leave, by their numbers, which rise. It takes time and memory
+    /// linear in the number of tokens that are left.
+    pub fn tokens_without_content(
+        &self,
+        alloc: Global,
+        tree: &Tree,
+        node: u32,
+    ) -> Result<Vec<u32>, Memory>
+        requires of { IsCutOf tree.now self.now }
+        requires can { CanEmpty tree.now.form (cut_tree tree.now self.now) node }
+        ensures tokens { IfOk result (λ tokens. (t : PlainTree) × HasChildren node (λ ts. PlainTrees.none) (cut_tree tree.now self.now) t
+            × (tokens.items ≡ leaves t)) }
+        ensures rising { IfOk result (λ tokens. IsStrictlyIncreasing tokens.items) }
+    {
+        tree_laws();
+        let nodes = tree.nodes();
+        match occupant(self.marks.as_slice(), node + 1) {
+            Some(content) => {
+                let gone = nodes[content as usize];
+                let mut tokens = Vec::from_slice(alloc, self.kept.as_slice())?;
+                remove_within(&mut tokens, &gone);
+                Ok(tokens)
+            }
+            None => unreachable!(),
+        }
+    }
+
+    /// The tokens that `replace` would leave, by their numbers, which rise. It takes time and memory linear in
+    /// the number of tokens that are left.
+    pub fn tokens_of_replacement(
+        &self,
+        alloc: Global,
+        tree: &Tree,
+        compat: &Compat,
+        node: u32,
+        by: u32,
+    ) -> Result<Vec<u32>, Memory>
+        requires of { IsCutOf tree.now self.now }
+        requires compat { compat.now ≡ tree.now.form }
+        requires can { CanReplace tree.now.form tree.now.start (cut_tree tree.now self.now) node by }
+        ensures tokens { IfOk result (λ tokens. (t : PlainTree)
+            × ((u : PlainTree) → subtree by (cut_tree tree.now self.now) ≡ Some u → t ≡ with_subtree node u (cut_tree tree.now self.now))
+            × (tokens.items ≡ leaves t)) }
+        ensures rising { IfOk result (λ tokens. IsStrictlyIncreasing tokens.items) }
+    {
+        tree_laws();
+        let nodes = tree.nodes();
+        let _ = compat;
+        let old = nodes[node as usize];
+        let new = nodes[by as usize];
+        let mut tokens = Vec::from_slice(alloc, self.kept.as_slice())?;
+        keep_within(&mut tokens, &old, &new);
         Ok(tokens)
     }
 
@@ -494,6 +589,49 @@ impl Cut {
         }
     }
 
+    /// Goes through the next child of a list as `pass` does, but changes these tokens alone.
+    fn pass_tokens(
+        &self,
+        tree: &Tree,
+        keep: &[bool],
+        tokens: &mut Vec<u32>,
+        progress: Progress,
+    ) -> Progress
+        requires of { IsCutOf tree.now self.now }
+        requires can { CanPassTokens tree.now self.now keep.now tokens.old.items progress }
+        ensures { HasPassedTokens tree.now self.now keep.now tokens.old.items progress tokens.new.items result }
+    {
+        tree_laws();
+        let _nodes = tree.nodes();
+        let position = tree.after(progress.position);
+        let node = match self.occupant_at(progress.position) {
+            Some(node) => node,
+            None => {
+                return Progress {
+                    position,
+                    elements: progress.elements,
+                    gap: progress.gap,
+                };
+            }
+        };
+        let count = count_after(tree, tokens, node, progress.gap);
+        let elements = progress.elements + 1;
+        if keep[progress.elements] {
+            let gap = keep_next(tokens, progress.gap, count);
+            return Progress {
+                position,
+                elements,
+                gap,
+            };
+        }
+        let gap = skip_next(tokens, progress.gap, count);
+        Progress {
+            position,
+            elements,
+            gap,
+        }
+    }
+
     /// The node that is at a position.
     fn occupant_at(&self, position: u32) -> Option<u32>
         requires position { position < length self.now.marks }
@@ -511,8 +649,7 @@ impl Cut {
         requires span { (x : NodeEntry) → slice_get tree.now.nodes node ≡ Some x → x.first ≤ x.end }
         ensures { (x : NodeEntry) → slice_get tree.now.nodes node ≡ Some x → result ≡ length (within x.first x.end (drop gap.to self.now.kept)) }
     {
-        let entry = tree.nodes()[node as usize];
-        count_within(&self.kept[gap.to..], &entry)
+        count_after(tree, self.kept.as_slice(), node, gap)
     }
 
     /// So many of the tokens after the gap stay.

@@ -122,7 +122,7 @@ pub(crate) fn keep_within(tokens: &mut Vec<u32>, old: &Node, new: &Node)
 pub(crate) fn numbers_below(alloc: Global, bound: u32) -> Result<Vec<u32>, Memory>
     ensures { IfOk result (λ numbers. numbers.items ≡ range_with_len 0 bound) }
 {
-    let mut numbers = Vec::new(alloc);
+    let mut numbers = Vec::with_capacity(alloc, bound as usize)?;
     for number in 0..bound {
         numbers.push(number)?;
     }

@@ -1,9 +1,10 @@
 -- Lists of which some elements are kept, gone through from left to right.
-use Rattle.std.specs.Prelude.{◌≡◌, ℕ, ◌+◌, ◌≤◌, ◌++◌, Bool, List, Some, drop, length, take}
+use Rattle.std.specs.Prelude.{◌≡◌, ℕ, ◌+◌, ◌≤◌, ◌++◌, Bool, List, Some, drop, length, slice_get, take}
 use Rattle.syntax_tree.specs.Trees.{PlainTree, PlainTrees, count, of_leaves_all}
 use Rattle.syntax_tree.specs.Numbered.{subtree, with_subtree}
 use Rattle.syntax_tree.specs.Nodes.{SyntaxTree, whole}
 use Rattle.syntax_tree.specs.Left.{selected_trees}
+use Rattle.syntax_tree_cut.specs.declared.mark.Mark.{Mark}
 use Rattle.syntax_tree_cut.specs.declared.progress.Progress.{Progress}
 use Rattle.syntax_tree_cut.specs.Cuts.{CanSelect, CutForm, IsCutOf, cut_tree, left_of_each}
 use Rattle.syntax_tree_cut.specs.inner.Children.{IsRest}
@@ -48,3 +49,23 @@ CanPass tree keep now p =
 abbrev pub HasPassed : SyntaxTree → List Bool → CutForm → Progress → CutForm → Progress → Type 0
 HasPassed tree keep now p after q = (c : CutForm) (list : ℕ) (can : CanSelect tree.form (cut_tree tree c) list keep) (t : PlainTree) (ts : PlainTrees) →
     IsKeptSoFar tree c list keep can (PlainTrees.next t ts) now p → IsKeptSoFar tree c list keep can ts after q
+
+-- From the position on the marks are these.
+abbrev pub AreMarksFrom : ℕ → List Mark → List Mark → Type 0
+AreMarksFrom position marks these = (k : ℕ) → position ≤ k → slice_get marks k ≡ slice_get these k
+
+-- The same of the tokens alone, while the cut c stays: what would have been marked is before the position.
+abbrev pub AreTokensSoFar : (tree : SyntaxTree) (c : CutForm) (list : ℕ) (keep : List Bool) → CanSelect tree.form (cut_tree tree c) list keep
+    → PlainTrees → List ℕ → Progress → Type 0
+AreTokensSoFar tree c list keep can rest tokens p =
+    (now : CutForm) × IsKeptSoFar tree c list keep can rest now p × (now.kept ≡ tokens) × AreMarksFrom p.position now.marks c.marks
+
+-- A list of the cut c is gone through, and there is a next position.
+abbrev pub CanPassTokens : SyntaxTree → CutForm → List Bool → List ℕ → Progress → Type 0
+CanPassTokens tree c keep tokens p = (list : ℕ) × (can : CanSelect tree.form (cut_tree tree c) list keep) × (t : PlainTree) × (ts : PlainTrees)
+    × AreTokensSoFar tree c list keep can (PlainTrees.next t ts) tokens p
+
+-- The list, whichever it is, is gone through up to the position after the next one.
+abbrev pub HasPassedTokens : SyntaxTree → CutForm → List Bool → List ℕ → Progress → List ℕ → Progress → Type 0
+HasPassedTokens tree c keep tokens p after q = (list : ℕ) (can : CanSelect tree.form (cut_tree tree c) list keep) (t : PlainTree) (ts : PlainTrees) →
+    AreTokensSoFar tree c list keep can (PlainTrees.next t ts) tokens p → AreTokensSoFar tree c list keep can ts after q

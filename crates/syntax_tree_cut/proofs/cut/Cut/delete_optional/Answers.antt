@@ -1,5 +1,5 @@
-use Rattle.std.proofs.Common.{◌≡◌, ℕ, ◌+◌, ◌<◌, List, Option, Some, length, sym, ap, ◌∙◌, subst, arith}
-use Rattle.std.proofs.lemmas.Option.{none-some, same_Some}
+use Rattle.std.proofs.Common.{ℕ, ◌+◌, ◌<◌, List, length, sym, ap, ◌∙◌, subst, arith}
+use Rattle.std.proofs.lemmas.Option.{none-some}
 use Rattle.syntax_tree.specs.Numbered.{number_of}
 use Rattle.syntax_tree_cut.specs.declared.mark.Mark.{Mark}
 use Rattle.syntax_tree_cut.specs.Cuts.{CutForm, IsOccupant}
@@ -8,13 +8,8 @@ use Rattle.syntax_tree_cut.specs.inner.Steps.{HasDeleted}
 use Rattle.syntax_tree_cut.proofs.CutFacts.{nodes_count}
 use Rattle.syntax_tree_cut.proofs.Positions.{replacements_rise}
 use Rattle.syntax_tree_cut.proofs.CutCalls.{content_at, content_deleted, content_facts}
+use Rattle.syntax_tree_cut.proofs.TokensLeft.{is_content}
 use Rattle.syntax_tree_cut.proofs.cut.Cut.delete_optional.Goals as goal
-
--- the occupant is the content
-is_content : (marks marks' : List Mark) (p : ℕ) (result : Option ℕ) (content number : ℕ) → marks ≡ marks'
-    → ((o : Option ℕ) → IsOccupant marks' p o → o ≡ Some number) → IsOccupant marks p result → result ≡ Some content → content ≡ number
-is_content marks marks' p result content number same each at is =
-    same_Some content number (sym is ∙ each result (subst (λ (l : List Mark). IsOccupant l p result) same at))
 
 pub overflow_add-node : goal.overflow_add-node
 overflow_add-node c =
