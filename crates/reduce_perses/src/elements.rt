@@ -1,9 +1,11 @@
 //! Visits of stars and pluses: list steps over their elements.
 
-ghost use Rattle.std.specs.Prelude.{IfOk, IfSome, IsSome};
+ghost use Rattle.std.specs.Prelude.{◌≡◌, IfOk, IfSome, IsSome};
+ghost use Rattle.std.specs.List.Sorted.{IsStrictlyIncreasing};
 ghost use Rattle.list_ddmin.specs.Machine.{asks};
 ghost use Rattle.reduce_rounds.specs.Trials.{state_after, trials_after};
 ghost use Rattle.syntax_tree.specs.Left.{selected_trees};
+ghost use Rattle.syntax_tree.specs.Trees.{PlainTree, leaves};
 ghost use Rattle.syntax_tree_cut.specs.Cuts.{CanSelect, HasChildren, IsCutOf, cut_tree};
 ghost use Rattle.reduce_perses.specs.declared.visit.Visit.TheVariants.{Elements};
 ghost use Rattle.reduce_perses.specs.inner.VisitTrials.{tree_within, visit_trials};
@@ -71,15 +73,26 @@ pub(crate) fn after_elements(
     Ok(None)
 }
 
-/// Keeps the elements that the list step asks for.
-pub(crate) fn keep_asked(tree: &Tree, cut: &mut Cut, list: u32, step: &Ddmin)
-    requires of { IsCutOf tree.now cut.old }
-    requires can { IfSome (asks step.now) (λ keep. CanSelect tree.now.form (cut_tree tree.now cut.old) list keep) }
+/// The tokens of the tree in which the list has the elements that the list step asks for, by their numbers.
+pub(crate) fn asked_tokens(
+    alloc: Global,
+    tree: &Tree,
+    cut: &Cut,
+    list: u32,
+    step: &Ddmin,
+) -> Result<Vec<u32>, Memory>
+    requires of { IsCutOf tree.now cut.now }
+    requires can { IfSome (asks step.now) (λ keep. CanSelect tree.now.form (cut_tree tree.now cut.now) list keep) }
     requires asking { IsSome (asks step.now) }
-    ensures of { IsCutOf tree.now cut.new }
-    ensures tree { IfSome (asks step.now) (λ keep. HasChildren list (selected_trees keep) (cut_tree tree.now cut.old) (cut_tree tree.now cut.new)) }
+    ensures tokens { IfOk result (λ tokens. (t : PlainTree)
+        × IfSome (asks step.now) (λ keep. HasChildren list (selected_trees keep) (cut_tree tree.now cut.now) t) × (tokens.items ≡ leaves t)) }
+    ensures rising { IfOk result (λ tokens. IsStrictlyIncreasing tokens.items) }
 {
-    if let Some(keep) = step.asks() {
-        cut.keep_elements(tree, list, keep);
+    match step.asks() {
+        Some(keep) => {
+            let tokens = cut.tokens_of_elements(alloc, tree, list, keep)?;
+            Ok(tokens)
+        }
+        None => unreachable!(),
     }
 }

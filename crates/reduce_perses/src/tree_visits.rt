@@ -8,7 +8,7 @@ ghost use Rattle.reduce_perses.specs.inner.Visiting.{IsGoing, IsVisiting};
 ghost use Rattle.reduce_perses.specs.inner.VisitTrials.{tree_left, trials_from, trials_within};
 
 use crate::laws::{loses_leaves, tries_kept_trees, tries_single_edits};
-use crate::visit::{Visit, after_answer, copy_of, next_visit, settle, tried_cut};
+use crate::visit::{Visit, after_answer, copy_of, next_visit, settle, tokens_tried};
 use crate::waiting::push_if_waiting;
 use compat_table::Compat;
 use faults::Memory;
@@ -90,13 +90,13 @@ impl<'a> TreeWalk for TreeVisits<'a> {
         self.visit.is_none()
     }
 
-    /// It takes time and memory linear in the number of nodes of the parsed tree.
+    /// It takes time and memory linear in the tokens that are left, and for elements the time of
+    /// [`Cut::tokens_of_elements`].
     fn tried_tokens(&self) -> Result<Vec<u32>, Memory> {
         match &self.visit {
             None => unreachable!(),
             Some(visit) => {
-                let tried = tried_cut(self.tree, self.compat, &self.cut, visit)?;
-                let tokens = tried.kept_tokens(self.alloc, self.tree)?;
+                let tokens = tokens_tried(self.alloc, self.tree, self.compat, &self.cut, visit)?;
                 Ok(tokens)
             }
         }

@@ -1,11 +1,12 @@
 //! Visits of nodes: what is tried at a node that waited.
 
-ghost use Rattle.std.specs.Prelude.{◌≡◌, Some, IfOk, List};
+ghost use Rattle.std.specs.Prelude.{◌≡◌, Some, IfOk, List, option_map};
+ghost use Rattle.std.specs.List.Sorted.{IsStrictlyIncreasing};
 ghost use Rattle.node_queue.specs.Waiting.{Waiting};
 ghost use Rattle.normal_form.specs.declared.normal.Sym.{Sym as Symbol};
 ghost use Rattle.normal_form.specs.Form.{NormalForm};
 ghost use Rattle.reduce_rounds.specs.Trials.{state_after, tried_state, trials_after};
-ghost use Rattle.syntax_tree.specs.Trees.{PlainTree};
+ghost use Rattle.syntax_tree.specs.Trees.{PlainTree, leaves};
 ghost use Rattle.syntax_tree_cut.specs.Cuts.{IsCutOf, cut_tree};
 ghost use Rattle.reduce_perses.specs.Queued.{IsInRound};
 ghost use Rattle.reduce_perses.specs.inner.VisitTrials.{goes_on, tree_left, tree_within, trials_within, visit_trials};
@@ -13,7 +14,7 @@ ghost use Rattle.reduce_perses.specs.inner.Visiting.{AreCopies, IsTaken, IsVisit
 
 use crate::content::after_content;
 use crate::descendants::{after_replacement, begin_descendants, next_descendant};
-use crate::elements::{after_elements, begin_elements, keep_asked};
+use crate::elements::{after_elements, asked_tokens, begin_elements};
 use compat_table::Compat;
 use faults::Memory;
 use list_ddmin::Ddmin;
@@ -85,39 +86,35 @@ pub(crate) fn copy_of(visit: &Option<Visit>) -> Result<Option<Visit>, Memory>
     }
 }
 
-/// What is left in the tree that is tried. It takes time and memory linear in the nodes of the parsed
-/// tree, for a copy of the cut.
-pub(crate) fn tried_cut(
+/// The tokens of the tree that is tried, by their numbers, which rise. It takes time and memory linear in the
+/// tokens that are left, and for elements the time of [`Cut::tokens_of_elements`].
+pub(crate) fn tokens_tried(
+    alloc: Global,
     tree: &Tree,
     compat: &Compat,
     cut: &Cut,
     visit: &Visit,
-) -> Result<Cut, Memory>
+) -> Result<Vec<u32>, Memory>
     requires of { IsCutOf tree.now cut.now }
     requires compat { compat.now ≡ tree.now.form }
     requires queue { (queue : List Waiting) × IsVisit tree.now.form tree.now.start (cut_tree tree.now cut.now) queue visit.now }
-    ensures of { IfOk result (λ tried. IsCutOf tree.now tried) }
-    ensures tried { IfOk result (λ tried. (queue : List Waiting) → IsVisit tree.now.form tree.now.start (cut_tree tree.now cut.now) queue visit.now
-        → tried_state (visit_trials tree.now.form tree.now.start (cut_tree tree.now cut.now) queue visit.now) ≡ Some (cut_tree tree.now tried)) }
-{
-    let mut tried = cut.copy()?;
-    make_edit(tree, compat, &mut tried, visit);
-    Ok(tried)
-}
-
-/// Makes the edit that is tried.
-fn make_edit(tree: &Tree, compat: &Compat, cut: &mut Cut, visit: &Visit)
-    requires of { IsCutOf tree.now cut.old }
-    requires compat { compat.now ≡ tree.now.form }
-    requires queue { (queue : List Waiting) × IsVisit tree.now.form tree.now.start (cut_tree tree.now cut.old) queue visit.now }
-    ensures of { IsCutOf tree.now cut.new }
-    ensures tried { (queue : List Waiting) → IsVisit tree.now.form tree.now.start (cut_tree tree.now cut.old) queue visit.now
-        → tried_state (visit_trials tree.now.form tree.now.start (cut_tree tree.now cut.old) queue visit.now) ≡ Some (cut_tree tree.now cut.new) }
+    ensures tokens { IfOk result (λ tokens. (queue : List Waiting) → IsVisit tree.now.form tree.now.start (cut_tree tree.now cut.now) queue visit.now
+        → option_map leaves (tried_state (visit_trials tree.now.form tree.now.start (cut_tree tree.now cut.now) queue visit.now)) ≡ Some tokens.items) }
+    ensures rising { IfOk result (λ tokens. IsStrictlyIncreasing tokens.items) }
 {
     match visit {
-        Visit::Elements { list, step } => keep_asked(tree, cut, *list, step),
-        Visit::Content { node } => cut.delete_optional(tree, *node),
-        Visit::Descendants { node, found, at } => cut.replace(tree, compat, *node, found[*at]),
+        Visit::Elements { list, step } => {
+            let tokens = asked_tokens(alloc, tree, cut, *list, step)?;
+            Ok(tokens)
+        }
+        Visit::Content { node } => {
+            let tokens = cut.tokens_without_content(alloc, tree, *node)?;
+            Ok(tokens)
+        }
+        Visit::Descendants { node, found, at } => {
+            let tokens = cut.tokens_of_replacement(alloc, tree, compat, *node, found[*at])?;
+            Ok(tokens)
+        }
     }
 }
 
